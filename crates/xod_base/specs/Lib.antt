@@ -1,2 +1,5 @@
 pub mod Causes
+pub mod Evaluation
+pub mod Rows
 pub mod Text
+pub mod Values

@@ -4,10 +4,16 @@
 //! words.
 #![tactic(auto)]
 
+mod answer;
 mod causes;
 mod listed;
+mod query;
 mod text;
+mod value;
 
+pub use answer::{ActAnswer, FlushAnswer, IdList, NameKind, NameList, Reply, StmtError};
 pub use causes::{Failed, Memory, Place, ReadError};
 pub use listed::{Bytes, Listed};
-pub use text::Text;
+pub use query::{Act, Mode, Query};
+pub use text::{Text, is_utf8};
+pub use value::{EntityId, Value};

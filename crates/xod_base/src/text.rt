@@ -86,7 +86,8 @@ impl Text {
 
     /// A text with the same bytes.
     pub fn try_clone(&self, alloc: Global) -> Result<Text, Memory>
-        ensures { IfOk result (λ text. text ≡ self.now) }
+        ensures equal { IfOk result (λ text. text ≡ self.now) }
+        ensures text { IsTrue (is_text self.now) }
     {
         Ok(Text {
             bytes: Vec::from_slice(alloc, &self.bytes)?,
