@@ -1,10 +1,10 @@
 -- What a value is, when two are the same, and by which key bytes an index finds it.
-use Rattle.std.specs.Prelude.{ℕ, suc, ◌+◌, ◌-◌, ◌^◌, Bool, true, ◌&&◌, ℤ, pos, negsuc, List, [], ◌∷◌, ◌++◌, map, nat_lt, nat_le, nat_eq, if◌then◌else◌}
+use Rattle.std.specs.Prelude.{ℕ, suc, ◌+◌, ◌-◌, ◌^◌, Bool, true, false, ◌&&◌, ℤ, pos, negsuc, List, [], ◌∷◌, ◌++◌, map, nat_lt, nat_le, nat_eq, if◌then◌else◌}
 use Rattle.std.specs.List.{list_any}
 use Rattle.std.specs.Int.{w64, to_be_bytes}
 use Rattle.std.specs.declared.cmp.Ordering.{Ordering}
 use Rattle.std.specs.declared.cmp.Ordering.TheVariants.{Equal}
-use Rattle.std.specs.Ordering.{nat_cmp, int_cmp, bool_cmp, ordering_then}
+use Rattle.std.specs.Ordering.{is_eq, nat_cmp, int_cmp, int_eq, bool_cmp, ordering_then}
 use Rattle.std.specs.Cmp.Lexicographic.{slice_cmp, pointwise}
 use Rattle.xod_base.specs.declared.value.Value.{Value}
 use Rattle.xod_base.specs.declared.value.Value.TheVariants.{Flag, Int, Text}
@@ -44,6 +44,13 @@ keys_of value = key_of value ∷ []
 -- whether a value has a key
 abbrev pub has_key : List ℕ → Value → Bool
 has_key key value = list_any (same_bytes key) (keys_of value)
+
+-- whether two values are the same, the case of texts included
+abbrev pub same_value : Value → Value → Bool
+same_value (Flag a) (Flag b) = is_eq (bool_cmp a b)
+same_value (Int a) (Int b) = int_eq a b
+same_value (Text a) (Text b) = same_bytes a b
+same_value v w = false
 
 -- an integer of 64 bits
 abbrev pub is_int : ℤ → Bool

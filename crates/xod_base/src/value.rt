@@ -2,7 +2,7 @@
 //!
 //! The order of key bytes is the order of values; both stand in `specs/Values.antt`.
 ghost use Rattle.std.specs.Prelude.{◌≡◌, ◌↔◌, ◌++◌, IsTrue, IfOk, OnOk};
-ghost use Rattle.xod_base.specs.Values.{biased, folded, folded_byte as byte_folded, is_value, key_of};
+ghost use Rattle.xod_base.specs.Values.{biased, folded, folded_byte as byte_folded, is_value, key_of, same_value};
 
 use crate::Memory;
 use crate::listed::Bytes;
@@ -90,7 +90,8 @@ impl Value {
 
     /// Whether both are the same value, the case of texts included.
     pub fn same(&self, other: &Value) -> bool
-        ensures { IsTrue result ↔ (self.now ≡ other.now) }
+        ensures equal { IsTrue result ↔ (self.now ≡ other.now) }
+        ensures test { result ≡ same_value self.now other.now }
     {
         match (self, other) {
             (Value::Flag(a), Value::Flag(b)) => a == b,
