@@ -1,0 +1,12 @@
+//! From the bytes of an input to the bytes of a transcript.
+//!
+//! Three modules that know of each other only what they hand on: the language, the run of a session, and the texts.
+//! The top call puts them together; its contract says what a run of the program prints and with which status it ends.
+#![tactic(auto)]
+
+mod lang;
+
+pub use lang::{
+    Ent, Form, Item, OrderItem, OrderList, Script, ScriptError, SessionList, SessionScript,
+    Statement, StatementList, Turned,
+};
