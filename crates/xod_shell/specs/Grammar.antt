@@ -1,11 +1,13 @@
 -- What a line says, and which lists of lines are a script.
 use Rattle.std.specs.Prelude.{ℕ, ◌+◌, Bool, true, false, not, ◌&&◌, List, [], ◌∷◌, ◌++◌, length, Option, Some, None, option_and_then, Result, Ok, Err, is_some, ◌==◌, if◌then◌else◌, codes}
+use Rattle.std.specs.List.{list_all}
 use Rattle.std.specs.Option.{option_to_list}
 use Rattle.std.specs.Str.{is_utf8}
 use Rattle.xod_base.specs.declared.query.Mode.TheVariants.{Ordinary}
 use Rattle.xod_base.specs.declared.query.Query.TheVariants.{All, Find}
 use Rattle.xod_base.specs.declared.value.Value.TheVariants.{Int}
 use Rattle.xod_base.specs.Values.{same_bytes}
+use Rattle.xod_base.specs.Rows.{has_name_length}
 use Rattle.xod_shell.specs.Words.{◌>>=◌, lines_of, after_blanks, word_at, is_ended, name_of, session_name_of, variable_of, integer_of}
 use Rattle.xod_shell.specs.declared.lang.script.Ent.TheVariants.{Var}
 use Rattle.xod_shell.specs.declared.lang.script.Form.{Form}
@@ -216,3 +218,20 @@ script_from past (Ok reading) = script_read past reading
 -- The script that an input is, or the number of its first bad line, from 1.
 unfoldable pub script_of : List ℕ → Result Script ℕ
 script_of bytes = script_from (length (lines_of bytes) + 1) (reading_of nothing_read 1 (lines_of bytes))
+
+-- ---- names
+
+-- the names of a statement's act have 1 to 255 bytes
+abbrev pub has_named_form : Form → Bool
+has_named_form (form.New kind var) = has_name_length kind
+has_named_form (form.Set ent prop value) = has_name_length prop
+has_named_form (form.Begin mode) = true
+has_named_form form.Commit = true
+has_named_form (form.Query query) = true
+
+abbrev pub are_well_named : List Statement → Bool
+are_well_named statements = list_all (λ statement. has_named_form statement.form) statements
+
+-- the names of each act of a script have 1 to 255 bytes
+abbrev pub is_well_named : Script → Bool
+is_well_named script = list_all (λ session. are_well_named session.statements) script.sessions

@@ -1,2 +1,5 @@
 pub mod Words
 pub mod Grammar
+pub mod Run
+pub mod Texts
+pub mod Outcome

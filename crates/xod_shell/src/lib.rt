@@ -5,8 +5,12 @@
 #![tactic(auto)]
 
 mod lang;
+mod print;
+mod session;
 
 pub use lang::{
     Ent, Form, Item, OrderItem, OrderList, Script, ScriptError, SessionList, SessionScript,
     Statement, StatementList, Turned,
 };
+pub use print::{print_answer, print_transcript};
+pub use session::{Answered, Replayed, Session, Store, Variable, World, replay};
