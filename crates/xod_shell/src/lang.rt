@@ -2,7 +2,9 @@
 //!
 //! It knows nothing of rows and answers. The words stand in `specs/Words.antt`, the lines and the script in
 //! `specs/Grammar.antt`.
+mod integers;
 mod script;
+mod words;
 
 pub use script::{
     Ent, Form, Item, Line, OrderItem, OrderList, Script, ScriptError, SessionList, SessionScript,
