@@ -3,6 +3,7 @@
 //! It knows nothing of rows and answers. The words stand in `specs/Words.antt`, the lines and the script in
 //! `specs/Grammar.antt`.
 mod integers;
+mod line;
 mod script;
 mod words;
 
