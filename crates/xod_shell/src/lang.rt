@@ -4,10 +4,12 @@
 //! `specs/Grammar.antt`.
 mod integers;
 mod line;
+mod read;
 mod script;
 mod words;
 
+pub use read::INPUT_LIMIT;
 pub use script::{
-    Ent, Form, Item, Line, OrderItem, OrderList, Script, ScriptError, SessionList, SessionScript,
+    Ent, Form, Item, OrderItem, OrderList, Script, ScriptError, SessionList, SessionScript,
     Statement, StatementList, Turned,
 };

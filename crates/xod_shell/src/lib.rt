@@ -7,6 +7,6 @@
 mod lang;
 
 pub use lang::{
-    Ent, Form, Item, OrderItem, OrderList, Script, ScriptError, SessionList, SessionScript,
-    Statement, StatementList, Turned,
+    Ent, Form, INPUT_LIMIT, Item, OrderItem, OrderList, Script, ScriptError, SessionList,
+    SessionScript, Statement, StatementList, Turned,
 };
