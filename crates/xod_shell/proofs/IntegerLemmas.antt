@@ -1,5 +1,5 @@
 -- A number only grows with the digits behind it.
-use Rattle.std.proofs.Common.{◌≡◌, ℕ, suc, ◌+◌, ◌-◌, ◌*◌, ◌<◌, ◌≤◌, List, [], ◌∷◌, length, get_or, drop, drop-cons, arith, add-one, refl}
+use Rattle.std.proofs.Common.{ℕ, suc, ◌+◌, ◌-◌, ◌*◌, ◌<◌, ◌≤◌, List, [], ◌∷◌, length, get_or, drop, drop-cons, arith}
 use Rattle.xod_shell.specs.Words.{number_after}
 
 number_grows : (digits : List ℕ) (n : ℕ) → n ≤ number_after n digits

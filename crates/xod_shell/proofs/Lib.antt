@@ -1,2 +1,5 @@
 pub mod IntegerLemmas
+pub mod LineLemmas
+pub mod NamedLemmas
+pub mod ReadLemmas
 pub mod WordLemmas

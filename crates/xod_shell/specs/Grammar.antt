@@ -1,5 +1,5 @@
 -- What a line says, and which lists of lines are a script.
-use Rattle.std.specs.Prelude.{ℕ, ◌+◌, Bool, true, false, not, ◌&&◌, List, [], ◌∷◌, ◌++◌, length, Option, Some, None, option_and_then, Result, Ok, Err, is_some, ◌==◌, if◌then◌else◌, codes}
+use Rattle.std.specs.Prelude.{ℕ, ◌+◌, Bool, true, false, not, ◌&&◌, List, [], ◌∷◌, ◌++◌, length, Option, Some, None, Result, Ok, Err, is_some, ◌==◌, if◌then◌else◌, codes}
 use Rattle.std.specs.List.{list_all}
 use Rattle.std.specs.Option.{option_to_list}
 use Rattle.std.specs.Str.{is_utf8}
@@ -12,7 +12,6 @@ use Rattle.xod_shell.specs.Words.{◌>>=◌, lines_of, after_blanks, word_at, is
 use Rattle.xod_shell.specs.declared.lang.script.Ent.TheVariants.{Var}
 use Rattle.xod_shell.specs.declared.lang.script.Form.{Form}
 use Rattle.xod_shell.specs.declared.lang.script.Form.TheVariants as form
-use Rattle.xod_shell.specs.declared.lang.script.Statement.{Statement}
 use Rattle.xod_shell.specs.declared.lang.script.SessionScript.{SessionScript}
 use Rattle.xod_shell.specs.declared.lang.script.Turned.{Turned}
 use Rattle.xod_shell.specs.declared.lang.script.Turned.TheVariants as turned

@@ -30,6 +30,12 @@ GoesOn (Ok reading) expected = expected ≡ Some (seen reading)
 GoesOn (Err unread.Bad) expected = expected ≡ None
 GoesOn (Err unread.Memory) expected = Unit {0}
 
+-- the same with the number of the line, which is the bad one
+abbrev pub GoesOnAt : ℕ → Result Reading ScriptError → Option grammar.Reading → Type 0
+GoesOnAt here (Ok reading) expected = expected ≡ Some (seen reading)
+GoesOnAt here (Err (script_error.Line line)) expected = (line ≡ here) × (expected ≡ None)
+GoesOnAt here (Err script_error.Memory) expected = Unit {0}
+
 -- A script exactly as the grammar gives it, a line exactly where that is the first bad one; want of memory says nothing.
 abbrev pub ReadsScript : Result Script ScriptError → Result Script ℕ → Type 0
 ReadsScript (Ok script) expected = expected ≡ Ok script

@@ -8,7 +8,7 @@ mod read;
 mod script;
 mod words;
 
-pub use read::INPUT_LIMIT;
+pub use read::{INPUT_LIMIT, read_script};
 pub use script::{
     Ent, Form, Item, OrderItem, OrderList, Script, ScriptError, SessionList, SessionScript,
     Statement, StatementList, Turned,

@@ -8,5 +8,5 @@ mod lang;
 
 pub use lang::{
     Ent, Form, INPUT_LIMIT, Item, OrderItem, OrderList, Script, ScriptError, SessionList,
-    SessionScript, Statement, StatementList, Turned,
+    SessionScript, Statement, StatementList, Turned, read_script,
 };
