@@ -6,7 +6,7 @@ use Rattle.std.specs.List.{position_from, list_all}
 use Rattle.xod_base.specs.Values.{same_bytes}
 use Rattle.xod_shell.specs.declared.lang.script.Turned.{Turned}
 use Rattle.xod_shell.specs.declared.lang.script.Statement.{Statement}
-use Rattle.xod_shell.specs.Grammar.{are_well_named, has_named_form}
+use Rattle.xod_shell.specs.Grammar.{are_named, has_named_form}
 use Rattle.xod_shell.specs.Run.{SessionState, Store, named_turn_taken, turn_taken, beside, in_front}
 
 -- the list after the session at place i + j took its turn, or could not
@@ -87,7 +87,7 @@ list_all-drop p (suc n) [] e = refl
 list_all-drop p (suc n) (x ∷ xs) e = list_all-drop p n xs (second_true (p x) (list_all p xs) e)
 
 -- what is left of well-named statements behind a place is well named
-pub are_well_named-behind : (at : ℕ) (xs ys : List Statement) → xs ≡ ys → are_well_named ys ≡ true → are_well_named (take (length xs - at) (drop at xs)) ≡ true
-are_well_named-behind at xs ys e h =
-    ap (λ n. are_well_named (take n (drop at xs))) (sym (length-drop at xs)) ∙ ap are_well_named (take-length (drop at xs))
-    ∙ list_all-drop (λ statement. has_named_form statement.form) at xs (ap are_well_named e ∙ h)
+pub are_named-behind : (at : ℕ) (xs ys : List Statement) → xs ≡ ys → are_named ys ≡ true → are_named (take (length xs - at) (drop at xs)) ≡ true
+are_named-behind at xs ys e h =
+    ap (λ n. are_named (take n (drop at xs))) (sym (length-drop at xs)) ∙ ap are_named (take-length (drop at xs))
+    ∙ list_all-drop (λ statement. has_named_form statement.form) at xs (ap are_named e ∙ h)

@@ -1,13 +1,13 @@
 -- What a line says, and which lists of lines are a script.
-use Rattle.std.specs.Prelude.{ℕ, ◌+◌, Bool, true, false, not, ◌&&◌, List, [], ◌∷◌, ◌++◌, length, Option, Some, None, option_and_then, Result, Ok, Err, is_some, ◌==◌, if◌then◌else◌, codes}
+use Rattle.std.specs.Prelude.{ℕ, ◌+◌, Bool, true, false, not, ◌&&◌, List, [], ◌∷◌, ◌++◌, length, Option, Some, None, Result, Ok, Err, is_some, ◌==◌, if◌then◌else◌, codes}
 use Rattle.std.specs.List.{list_all}
 use Rattle.std.specs.Option.{option_to_list}
 use Rattle.std.specs.Str.{is_utf8}
 use Rattle.xod_base.specs.declared.query.Mode.TheVariants.{Ordinary}
 use Rattle.xod_base.specs.declared.query.Query.TheVariants.{All, Find}
 use Rattle.xod_base.specs.declared.value.Value.TheVariants.{Int}
-use Rattle.xod_base.specs.Values.{same_bytes}
 use Rattle.xod_base.specs.Rows.{has_name_length}
+use Rattle.xod_base.specs.Values.{same_bytes}
 use Rattle.xod_shell.specs.Words.{◌>>=◌, lines_of, after_blanks, word_at, is_ended, name_of, session_name_of, variable_of, integer_of}
 use Rattle.xod_shell.specs.declared.lang.script.Ent.TheVariants.{Var}
 use Rattle.xod_shell.specs.declared.lang.script.Form.{Form}
@@ -181,6 +181,10 @@ with_statement reading line form (Some session) =
     })
     else None
 
+-- the order begins
+abbrev pub with_order : Reading → ℕ → Option Reading
+with_order reading line = if is_between_parts reading then Some (record reading { order_line = Some line }) else None
+
 abbrev pub with_item : Reading → ℕ → Item → Option Reading
 with_item reading line item =
     if is_some reading.order_line
@@ -191,7 +195,7 @@ with_item reading line item =
 unfoldable pub with_line : Reading → ℕ → Line → Option Reading
 with_line reading line Nothing = Some reading
 with_line reading line (Session name) = with_session reading name
-with_line reading line Order = if is_between_parts reading then Some (record reading { order_line = Some line }) else None
+with_line reading line Order = with_order reading line
 with_line reading line (StatementLine form) = with_statement reading line form reading.last
 with_line reading line (ItemLine item) = with_item reading line item
 
@@ -219,9 +223,9 @@ script_from past (Ok reading) = script_read past reading
 unfoldable pub script_of : List ℕ → Result Script ℕ
 script_of bytes = script_from (length (lines_of bytes) + 1) (reading_of nothing_read 1 (lines_of bytes))
 
--- ---- names
+-- ---- what holds of every script
 
--- the names of a statement's act have 1 to 255 bytes
+-- the names that an act takes have 1 to 255 bytes
 abbrev pub has_named_form : Form → Bool
 has_named_form (form.New kind var) = has_name_length kind
 has_named_form (form.Set ent prop value) = has_name_length prop
@@ -229,9 +233,12 @@ has_named_form (form.Begin mode) = true
 has_named_form form.Commit = true
 has_named_form (form.Query query) = true
 
-abbrev pub are_well_named : List Statement → Bool
-are_well_named statements = list_all (λ statement. has_named_form statement.form) statements
+abbrev pub are_named : List Statement → Bool
+are_named statements = list_all (λ statement. has_named_form statement.form) statements
 
--- the names of each act of a script have 1 to 255 bytes
+abbrev pub are_well_named : SessionScript → Bool
+are_well_named session = are_named session.statements
+
+-- Each statement's names have 1 to 255 bytes.
 abbrev pub is_well_named : Script → Bool
-is_well_named script = list_all (λ session. are_well_named session.statements) script.sessions
+is_well_named script = list_all are_well_named script.sessions

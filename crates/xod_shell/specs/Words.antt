@@ -115,15 +115,18 @@ abbrev pub number_after : ℕ → List ℕ → ℕ
 number_after n [] = n
 number_after n (digit ∷ digits) = number_after (10 * n + (digit - 48)) digits
 
--- more than one digit, the first of which is not 0
+-- one digit, or more of which the first is not 0
 abbrev pub has_no_leading_zero : List ℕ → Bool
 has_no_leading_zero [] = false
 has_no_leading_zero (digit ∷ []) = true
 has_no_leading_zero (digit ∷ next ∷ digits) = not (digit == 48)
 
+abbrev pub is_decimal : List ℕ → Bool
+is_decimal word = list_all is_digit word && has_no_leading_zero word
+
 -- the number of decimal digits without leading zeros
 unfoldable pub decimal_of : List ℕ → Option ℕ
-decimal_of word = if list_all is_digit word && has_no_leading_zero word then Some (number_after 0 word) else None
+decimal_of word = if is_decimal word then Some (number_after 0 word) else None
 
 abbrev pub positive_of : ℕ → Option ℤ
 positive_of n = if nat_lt n (2 ^ 63) then Some (pos n) else None
@@ -132,7 +135,14 @@ abbrev pub negative_of : ℕ → Option ℤ
 negative_of zero = None
 negative_of (suc n) = if nat_lt n (2 ^ 63) then Some (negsuc n) else None
 
+-- the integer of digits alone, and of digits behind a `-`
+unfoldable pub unsigned_of : List ℕ → Option ℤ
+unsigned_of digits = decimal_of digits >>= positive_of
+
+unfoldable pub negated_of : List ℕ → Option ℤ
+negated_of digits = decimal_of digits >>= negative_of
+
 -- an integer of 64 bits: an optional `-`, digits without leading zeros, and not `-0`
 unfoldable pub integer_of : List ℕ → Option ℤ
 integer_of [] = None
-integer_of (byte ∷ bytes) = if byte == 45 then decimal_of bytes >>= negative_of else decimal_of (byte ∷ bytes) >>= positive_of
+integer_of (byte ∷ bytes) = if byte == 45 then negated_of bytes else unsigned_of (byte ∷ bytes)

@@ -9,8 +9,8 @@ mod print;
 mod session;
 
 pub use lang::{
-    Ent, Form, Item, OrderItem, OrderList, Script, ScriptError, SessionList, SessionScript,
-    Statement, StatementList, Turned,
+    Ent, Form, INPUT_LIMIT, Item, OrderItem, OrderList, Script, ScriptError, SessionList,
+    SessionScript, Statement, StatementList, Turned, read_script,
 };
 pub use print::{print_answer, print_transcript};
 pub use session::{Answered, Replayed, Session, Store, Variable, World, replay};

@@ -80,7 +80,7 @@ pub enum ScriptError {
 
 /// What one line says by itself.
 #[derive(Debug, Drop)]
-pub enum Line {
+pub(super) enum Line {
     /// No words, or a comment.
     Nothing,
     Session(Text),

@@ -3,7 +3,7 @@ ghost use Rattle.std.specs.Prelude.{◌≡◌, ◌+◌, ◌<◌, ◌≤◌, ◌^
 ghost use Rattle.xod_base.specs.Rows.{has_name_length};
 ghost use Rattle.xod_shell.specs.declared.lang.script.Form.TheVariants as form;
 ghost use Rattle.xod_shell.specs.declared.lang.script.Ent.TheVariants as ent;
-ghost use Rattle.xod_shell.specs.Grammar.{are_well_named, has_named_form};
+ghost use Rattle.xod_shell.specs.Grammar.{are_named, has_named_form};
 ghost use Rattle.xod_shell.specs.Run.{act_reply, answered, begun, ended, flushed, is_shared, readied, replied};
 
 use crate::lang::{Ent, Form, Statement};
@@ -179,7 +179,7 @@ impl Dialogue {
 
     /// Answers the private statements at the front, and says how many they are.
     pub fn answer_front(&mut self, alloc: Global, statements: &[Statement]) -> Result<usize, Memory>
-        requires { IsTrue (are_well_named statements.now) }
+        requires { IsTrue (are_named statements.now) }
         ensures front { IfOk result (λ count. count ≤ length statements.now) }
         ensures answered { IfOk result (λ count. readied self.old statements.now ≡ (self.new, drop count statements.now)) }
     {

@@ -75,7 +75,7 @@ fn take_turn(
 
 /// The sessions at the start of their scripts.
 fn opened(alloc: Global, scripts: SessionList) -> Result<Vec<Session>, Memory>
-    requires { IsTrue (list_all (λ script. are_well_named script.statements) scripts) }
+    requires { IsTrue (list_all are_well_named scripts) }
     ensures { IfOk result (λ sessions. sessions.items ≡ map opened_session scripts) }
 {
     let mut sessions = Vec::new(alloc);
@@ -88,7 +88,7 @@ fn opened(alloc: Global, scripts: SessionList) -> Result<Vec<Session>, Memory>
 impl World {
     /// A store without contents, and the sessions at the start of their scripts.
     fn opening(alloc: Global, scripts: SessionList) -> Result<World, Memory>
-        requires { IsTrue (list_all (λ script. are_well_named script.statements) scripts) }
+        requires { IsTrue (list_all are_well_named scripts) }
         ensures { IfOk result (λ world. world ≡ opening no_rows 0 scripts) }
     {
         let sessions = opened(alloc, scripts)?;
@@ -138,7 +138,7 @@ pub fn replay(
     scripts: SessionList,
     order: &[OrderItem],
 ) -> Result<Replayed, Memory>
-    requires { IsTrue (list_all (λ script. are_well_named script.statements) scripts) }
+    requires { IsTrue (list_all are_well_named scripts) }
     ensures { IfOk result (λ replayed. IsReplayed replayed
         (order_played (opening no_rows 0 scripts) (items_of order.now))) }
 {

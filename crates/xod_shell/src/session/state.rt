@@ -1,6 +1,6 @@
 //! A session: its script, and how far it has come in it.
 ghost use Rattle.std.specs.Prelude.{◌≡◌, ◌+◌, ◌<◌, ◌^◌, ◌≤◌, IsTrue, IfOk, OnOk, MatchBool, Some, None};
-ghost use Rattle.xod_shell.specs.Grammar.{are_well_named};
+ghost use Rattle.xod_shell.specs.Grammar.{are_named};
 ghost use Rattle.xod_shell.specs.Run.{is_over, next_taken, opened_session, readied_session, turn_taken};
 
 use crate::lang::{Form, SessionScript, StatementList, Turned};
@@ -23,7 +23,7 @@ pub struct Session {
 
 impl Model for Session {
     ghost use Rattle.std.specs.Prelude.{◌≤◌, IsTrue, drop, length};
-    ghost use Rattle.xod_shell.specs.Grammar.{are_well_named};
+    ghost use Rattle.xod_shell.specs.Grammar.{are_named};
     ghost use Rattle.xod_shell.specs.Run.{SessionState, session_code};
 
     ghost Value = { SessionState };
@@ -32,13 +32,13 @@ impl Model for Session {
 
     ghost view = { λ s. record { name = s.name; rest = drop s.at s.statements; half = s.half; dialogue = s.dialogue } };
 
-    ghost invariant = { λ s. (s.at ≤ length s.statements) × IsTrue (are_well_named s.statements) };
+    ghost invariant = { λ s. (s.at ≤ length s.statements) × IsTrue (are_named s.statements) };
 }
 
 impl Session {
     /// A session at the start of its script.
     pub fn new(alloc: Global, script: SessionScript) -> Session
-        requires { IsTrue (are_well_named script.statements) }
+        requires { IsTrue (are_named script.statements) }
         ensures { result ≡ opened_session script }
     {
         let SessionScript { name, statements } = script;
