@@ -1,3 +1,4 @@
+pub mod EndingLemmas
 pub mod IntegerLemmas
 pub mod LineLemmas
 pub mod NamedLemmas

@@ -7,6 +7,7 @@
 mod lang;
 mod print;
 mod session;
+mod top;
 
 pub use lang::{
     Ent, Form, INPUT_LIMIT, Item, OrderItem, OrderList, Script, ScriptError, SessionList,
@@ -14,3 +15,4 @@ pub use lang::{
 };
 pub use print::{print_answer, print_transcript};
 pub use session::{Answered, Replayed, Session, Store, Variable, World, replay};
+pub use top::{Ending, Outcome, xod_quiet};
