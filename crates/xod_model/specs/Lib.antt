@@ -1,2 +1,6 @@
 pub mod Changes
+pub mod Entries
 pub mod Journal
+pub mod Laws
+pub mod Places
+pub mod Refusals
