@@ -13,6 +13,7 @@ use Rattle.xod_base.specs.Rows.{RowsValue, Cell, id_cmp, cell_cmp, no_rows, is_s
 use Rattle.xod_model.specs.declared.change.RowChange.{RowChange}
 use Rattle.xod_model.specs.declared.change.RowChange.TheVariants.{AddEntity, Prop}
 use Rattle.xod_model.specs.Changes.{fits, is_change, applied, has_room, kind_number, with_next, is_option_value, option_text_length, same_option}
+use Rattle.xod_model.specs.Fitting.{CanTake}
 use Rattle.xod_model.proofs.KeyLemmas.{id_total, id_same, cell_total, cell_same}
 use Rattle.xod_model.proofs.SortedLemmas.{entries-empty}
 use Rattle.xod_model.proofs.ListLemmas.{both, two, all_pushed, all_set, all_too, all_inserted, all_removed}
@@ -139,13 +140,7 @@ sound_with_entity rows id kind s n text =
         ]
 
 -- ---- a property
-pub record NewValue (rows : RowsValue) (id : EntityId) (name : List ℕ) (new : Option Value) : Type 0 where
-  pub named : has_name_length name ≡ true
-  pub room : has_room rows.props name ≡ true
-  pub there : is_some (get rows.ids id) ≡ true
-  pub short : nat_le (option_text_length new) LONGEST_TEXT ≡ true
-
-pub new_value : (rows : RowsValue) (id : EntityId) (name : List ℕ) (old new : Option Value) → fits rows (Prop id name old new) ≡ true → NewValue rows id name new
+pub new_value : (rows : RowsValue) (id : EntityId) (name : List ℕ) (old new : Option Value) → fits rows (Prop id name old new) ≡ true → CanTake rows id name new
 new_value rows id name old new h =
     let t = six (has_name_length name) (has_room rows.props name) (is_some (get rows.ids id)) (same_option old (get rows.values (id, name))) (not (same_option old new)) (nat_le (option_text_length new) LONGEST_TEXT) h in
     record { named = t.0; room = t.1; there = t.2; short = t.5 }
@@ -155,8 +150,8 @@ cell_of_named rows id name value e h =
     let t = four (is_some (get rows.ids e.0.0)) (is_listed rows.props e.0.1) (is_value e.1) (nat_le (text_length e.1) LONGEST_TEXT) h in
     λ i. t.0 i && listed_kept rows.props name e.0.1 t.1 i && t.2 i && t.3 i
 
-pub sound_with_value : (rows : RowsValue) (id : EntityId) (name : List ℕ) (old new : Option Value) → Sound rows → NewValue rows id name new → is_text name ≡ true → is_option_value new ≡ true → Sound (applied rows (Prop id name old new))
-sound_with_value rows id name old None s n text value = record {
+pub sound_without_value : (rows : RowsValue) (id : EntityId) (name : List ℕ) (old : Option Value) → Sound rows → Sound (applied rows (Prop id name old None))
+sound_without_value rows id name old s = record {
   types = s.types;
   props = s.props;
   as_many = s.as_many;
@@ -164,6 +159,9 @@ sound_with_value rows id name old None s n text value = record {
   ids = s.ids;
   values = all_removed cell_total cell_same (is_cell rows) rows.values (id, name) s.values;
 }
+
+pub sound_with_value : (rows : RowsValue) (id : EntityId) (name : List ℕ) (old new : Option Value) → Sound rows → CanTake rows id name new → is_text name ≡ true → is_option_value new ≡ true → Sound (applied rows (Prop id name old new))
+sound_with_value rows id name old None s n text value = sound_without_value rows id name old s
 sound_with_value rows id name old (Some value) s n text is = record {
   types = s.types;
   props = are_names-with rows.props name s.props n.room (both _ _ n.named text);

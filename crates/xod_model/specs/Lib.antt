@@ -1,5 +1,6 @@
 pub mod Changes
 pub mod Entries
+pub mod Fitting
 pub mod Journal
 pub mod Laws
 pub mod Places

@@ -5,6 +5,7 @@
 //! list of shared steps, in `specs/Journal.antt`.
 #![tactic(auto)]
 
+mod applying;
 mod cells;
 mod change;
 mod evaluation;

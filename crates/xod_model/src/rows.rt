@@ -2,16 +2,18 @@
 //!
 //! Every call goes through whole lists. What each answers stands in `specs/Changes.antt`, and in `xod_base` in
 //! `specs/Evaluation.antt`.
-ghost use Rattle.std.specs.Prelude.{◌≡◌, IsTrue, IfOk, IfErr, Ok};
+ghost use Rattle.std.specs.Prelude.{◌≡◌, IsTrue, IfOk, IfErr, Ok, Some, None, is_ok, if◌then◌else◌};
 ghost use Rattle.std.specs.FinMap.{get};
 ghost use Rattle.std.specs.Option.{option_copied};
 ghost use Rattle.xod_base.specs.Evaluation.{ids_of as all_ids_of};
 ghost use Rattle.xod_base.specs.Rows.{is_sound, no_rows};
-ghost use Rattle.xod_model.specs.Changes.{all_fit, expansion_of, has_names, kind_number, new_expansion, set_expansion};
+ghost use Rattle.xod_model.specs.Changes.{all_applied, all_fit, applied, fits, expansion_of, has_names, kind_number, new_expansion, set_expansion};
 ghost use Rattle.xod_model.specs.Refusals.{Refuses};
+ghost use Rattle.xod_model.specs.Fitting.{CanTake};
 
 use crate::cells::CellMap;
-use crate::change::ChangeList;
+use crate::applying::{list_entity, list_value};
+use crate::change::{ChangeList, RowChange};
 use crate::expansion::{entity_added, is_same, text_length, value_set};
 use crate::ids::IdSet;
 use crate::names::{NAMES_LIMIT, copies, has_room, kind_number, next_of, number_of};
@@ -165,5 +167,68 @@ impl Rows {
         ensures { option_copied result ≡ get self.now.values (id, prop.now) }
     {
         self.values.get(id, prop)
+    }
+
+    /// Makes changes, each of which fits the rows after those before it. A refusal leaves the rows as they were.
+    pub fn apply(&mut self, alloc: Global, changes: &ChangeList) -> Result<(), Memory>
+        requires { IsTrue (all_fit self.old changes.now) }
+        ensures { self.new ≡ (if is_ok result then all_applied self.old changes.now else self.old) }
+    {
+        if let [only] = changes.as_slice() {
+            self.apply_one(alloc, only)?;
+            return Ok(());
+        }
+        let mut rows = self.try_clone(alloc)?;
+        for change in changes.as_slice() {
+            rows.apply_one(alloc, change)?;
+        }
+        *self = rows;
+        Ok(())
+    }
+
+    fn apply_one(&mut self, alloc: Global, change: &RowChange) -> Result<(), Memory>
+        requires { IsTrue (fits self.old change.now) }
+        ensures { self.new ≡ (if is_ok result then applied self.old change.now else self.old) }
+    {
+        match change {
+            RowChange::AddEntity { id, kind } => self.add_entity(alloc, *id, kind)?,
+            RowChange::Prop {
+                id,
+                name,
+                old: _,
+                new: Some(value),
+            } => self.set_value(alloc, *id, name, value)?,
+            RowChange::Prop {
+                id,
+                name,
+                old: _,
+                new: None,
+            } => self.remove_value(*id, name),
+        }
+        Ok(())
+    }
+
+    fn add_entity(&mut self, alloc: Global, id: EntityId, kind: &Text) -> Result<(), Memory>
+        requires { IsTrue (fits self.old (RowChange.AddEntity id kind.now)) }
+        ensures { self.new ≡ (if is_ok result then applied self.old (RowChange.AddEntity id kind.now) else self.old) }
+    {
+        let kind = kind.try_clone(alloc)?;
+        list_entity(&mut self.types, &mut self.nexts, &mut self.ids, id, kind)?;
+        Ok(())
+    }
+
+    fn set_value(&mut self, alloc: Global, id: EntityId, name: &Text, value: &Value) -> Result<(), Memory>
+        requires { CanTake self.old id name.now (Some value.now) }
+        ensures { self.new
+            ≡ (if is_ok result then applied self.old (RowChange.Prop id name.now None (Some value.now)) else self.old) }
+    {
+        list_value(alloc, &mut self.props, &mut self.values, id, name, value)?;
+        Ok(())
+    }
+
+    fn remove_value(&mut self, id: EntityId, name: &Text)
+        ensures { self.new ≡ applied self.old (RowChange.Prop id name.now None None) }
+    {
+        self.values.remove(id, name);
     }
 }
