@@ -6,6 +6,7 @@
 
 mod answer;
 mod causes;
+mod laws;
 mod listed;
 mod query;
 mod text;
@@ -13,6 +14,7 @@ mod value;
 
 pub use answer::{ActAnswer, FlushAnswer, IdList, NameKind, NameList, Reply, StmtError};
 pub use causes::{Failed, Memory, Place, ReadError};
+pub use laws::{keys_are_in_the_order_of_values, no_key_begins_another};
 pub use listed::{Bytes, Listed};
 pub use query::{Act, Mode, Query};
 pub use text::{Text, is_utf8};
