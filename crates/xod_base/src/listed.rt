@@ -81,6 +81,19 @@ impl<T> Listed<T> {
     }
 }
 
+impl<T> Listed<T> {
+    /// Puts the items of another list at the end. A refusal leaves the list as it was.
+    pub fn append(&mut self, more: Listed<T>) -> Result<(), Memory>
+    where
+        T: Drop,
+        ensures { self.new ≡ (if is_ok result then self.old ++ more else self.old) }
+    {
+        let mut items = more.into_vec();
+        self.items.append(&mut items)?;
+        Ok(())
+    }
+}
+
 impl<T: Copy> Listed<T> {
     /// A list with the same items.
     pub fn try_clone(&self, alloc: Global) -> Result<Self, Memory>

@@ -1,7 +1,8 @@
 //! A text: UTF-8 without control characters.
 //!
 //! Names and texts of properties are of this type, so no clause repeats that they are text.
-ghost use Rattle.std.specs.Prelude.{◌≡◌, ◌↔◌, IsTrue, IfOk, MatchOption, false, length, not};
+ghost use Rattle.std.specs.Prelude.{◌≡◌, ◌↔◌, IsTrue, IfOk, MatchOption, false, length, nat_eq, not};
+ghost use Rattle.std.specs.Cmp.Lexicographic.{pointwise};
 ghost use Rattle.std.specs.List.{list_all};
 ghost use Rattle.std.specs.Str.{is_utf8 as utf8_test};
 ghost use Rattle.xod_base.specs.Text.{is_control as control_test, is_text};
@@ -96,7 +97,8 @@ impl Text {
 
     /// Whether both have the same bytes, case included.
     pub fn same(&self, other: &Text) -> bool
-        ensures { IsTrue result ↔ (self.now ≡ other.now) }
+        ensures equal { IsTrue result ↔ (self.now ≡ other.now) }
+        ensures test { result ≡ pointwise nat_eq self.now other.now }
     {
         self.bytes.as_slice() == other.bytes.as_slice()
     }

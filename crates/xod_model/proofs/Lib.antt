@@ -1,0 +1,5 @@
+pub mod KeyLemmas
+pub mod ListLemmas
+pub mod NameLemmas
+pub mod SoundLemmas
+pub mod SortedLemmas

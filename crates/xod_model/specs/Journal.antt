@@ -1,6 +1,6 @@
 -- The journal as a list of entries, and when it stands: what the rules say of shared steps without the scripts.
-use Rattle.std.specs.Prelude.{ℕ, ◌+◌, Bool, true, false, not, ◌&&◌, ◌||◌, List, [], ◌∷◌, ◌++◌, Option, Some, None, option_and_then, ◌==◌, if◌then◌else◌, is_some}
-use Rattle.std.specs.List.{filter, list_any, find}
+use Rattle.std.specs.Prelude.{ℕ, ◌+◌, Bool, true, false, not, ◌||◌, List, [], ◌∷◌, Option, Some, None, option_and_then, ◌==◌, if◌then◌else◌}
+use Rattle.std.specs.List.{filter, find}
 use Rattle.xod_base.specs.declared.query.Mode.{Mode}
 use Rattle.xod_base.specs.Rows.{RowsValue}
 use Rattle.xod_model.specs.declared.change.RowChange.{RowChange}

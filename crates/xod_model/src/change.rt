@@ -6,7 +6,10 @@ use xod_base::{EntityId, Listed, Text, Value};
 #[derive(Debug, Drop)]
 pub enum RowChange {
     /// A new entity of a type, whose name is listed with its first entity.
-    AddEntity { id: EntityId, kind: Text },
+    AddEntity {
+        id: EntityId,
+        kind: Text,
+    },
     /// A property's value before and after; `None` where there is none.
     Prop {
         id: EntityId,

@@ -5,7 +5,9 @@ use xod_base::Mode;
 /// A step that a session takes on the store.
 #[derive(Debug, Drop)]
 pub enum Step {
-    Begin { mode: Mode },
+    Begin {
+        mode: Mode,
+    },
     /// The changes of the transaction, and the number of the new commit where they became one.
     Flush {
         changes: ChangeList,

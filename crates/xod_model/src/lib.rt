@@ -5,10 +5,20 @@
 //! list of shared steps, in `specs/Journal.antt`.
 #![tactic(auto)]
 
+mod applying;
+mod cells;
 mod change;
+mod evaluation;
+mod expansion;
+mod ids;
 mod journal;
+mod laws;
+mod names;
 mod rows;
 
 pub use change::{ChangeList, RowChange};
+pub use evaluation::plain_eval;
+pub use expansion::answer_to;
 pub use journal::{JournalEntry, Step};
-pub use rows::{Rows, plain_eval};
+pub use laws::{changes_keep_sound, expansions_fit, journals_go_on, same_is_equal};
+pub use rows::Rows;

@@ -12,6 +12,7 @@ use Rattle.xod_shell.specs.Words.{◌>>=◌, lines_of, after_blanks, word_at, is
 use Rattle.xod_shell.specs.declared.lang.script.Ent.TheVariants.{Var}
 use Rattle.xod_shell.specs.declared.lang.script.Form.{Form}
 use Rattle.xod_shell.specs.declared.lang.script.Form.TheVariants as form
+use Rattle.xod_shell.specs.declared.lang.script.Statement.{Statement}
 use Rattle.xod_shell.specs.declared.lang.script.SessionScript.{SessionScript}
 use Rattle.xod_shell.specs.declared.lang.script.Turned.{Turned}
 use Rattle.xod_shell.specs.declared.lang.script.Turned.TheVariants as turned
@@ -232,8 +233,11 @@ has_named_form (form.Begin mode) = true
 has_named_form form.Commit = true
 has_named_form (form.Query query) = true
 
+abbrev pub are_named : List Statement → Bool
+are_named statements = list_all (λ statement. has_named_form statement.form) statements
+
 abbrev pub are_well_named : SessionScript → Bool
-are_well_named session = list_all (λ statement. has_named_form statement.form) session.statements
+are_well_named session = are_named session.statements
 
 -- Each statement's names have 1 to 255 bytes.
 abbrev pub is_well_named : Script → Bool

@@ -1,3 +1,7 @@
+pub mod Endings
 pub mod Grammar
+pub mod Outcome
 pub mod Reads
+pub mod Run
+pub mod Texts
 pub mod Words

@@ -5,8 +5,14 @@
 #![tactic(auto)]
 
 mod lang;
+mod print;
+mod session;
+mod top;
 
 pub use lang::{
     Ent, Form, INPUT_LIMIT, Item, OrderItem, OrderList, Script, ScriptError, SessionList,
     SessionScript, Statement, StatementList, Turned, read_script,
 };
+pub use print::{print_answer, print_transcript};
+pub use session::{Answered, Replayed, Session, Store, Variable, World, replay};
+pub use top::{Ending, Outcome, xod_quiet};
