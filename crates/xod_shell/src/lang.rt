@@ -6,6 +6,8 @@ mod integers;
 mod line;
 mod read;
 mod script;
+#[cfg(test)]
+mod tests;
 mod words;
 
 pub use read::{INPUT_LIMIT, read_script};
