@@ -6,7 +6,7 @@ use std::process::ExitCode;
 use std::rt::Env;
 use std::{env, vec::Vec};
 use xod_io::{StdSink, StdSource};
-use xod_shell::xod_quiet;
+use xod_shell::{Outcome, xod_quiet};
 
 /// The words of the command line behind the program's name.
 fn words<R: Env + AllocGlobal>(rt: &R) -> io::Result<Vec<String>> {
@@ -22,6 +22,6 @@ fn main(rt: HostRuntime) -> ExitCode {
     let words = words(&rt).unwrap_or(Vec::new(rt.alloc()));
     let mut input = StdSource::new(rt.stdin());
     let mut out = StdSink::new(rt.stdout());
-    let outcome = xod_quiet(rt.alloc(), &words, &mut input, &mut out, ());
-    ExitCode::from(outcome.status)
+    let Outcome { status, volume: () } = xod_quiet(rt.alloc(), &words, &mut input, &mut out, ());
+    ExitCode::from(status)
 }

@@ -7,9 +7,10 @@ mod orders;
 use std::alloc::Global;
 use std::test::Fail;
 use xod_io::{MemorySink, MemorySource};
-use xod_shell::xod_quiet;
+use xod_shell::{Outcome, xod_quiet};
 
 /// The status of a run of `replay` over an input, and what it wrote.
+#[derive(Drop)]
 pub(crate) struct Ran {
     pub status: u8,
     pub text: Vec<u8>,
@@ -25,9 +26,9 @@ pub(crate) fn ran_with(
     let words = vec![in alloc; String::from_str(alloc, "replay")?]?;
     let mut source = MemorySource::new(alloc, input, source_fails)?;
     let mut sink = MemorySink::new(alloc, sink_fails)?;
-    let outcome = xod_quiet(alloc, &words, &mut source, &mut sink, ());
+    let Outcome { status, volume: () } = xod_quiet(alloc, &words, &mut source, &mut sink, ());
     Ok(Ran {
-        status: outcome.status,
+        status,
         text: Vec::from_slice(alloc, sink.bytes())?,
     })
 }

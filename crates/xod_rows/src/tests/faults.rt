@@ -3,7 +3,7 @@ use super::ran_with;
 use std::alloc::Global;
 use std::test::Fail;
 use xod_io::{MemorySink, MemorySource};
-use xod_shell::xod_quiet;
+use xod_shell::{Outcome, xod_quiet};
 
 const INPUT: &[u8] = b"session a\nbegin\nnew T as $x\nset $x p 3\nquery find T p 3\ncommit\norder\nturn a begin\nturn a flush\nturn a end\n";
 
@@ -42,8 +42,8 @@ fn status_of(alloc: Global, words: &[&str]) -> Result<u8, Fail> {
     }
     let mut source = MemorySource::new(alloc, INPUT, &[0])?;
     let mut sink = MemorySink::new(alloc, &[])?;
-    let outcome = xod_quiet(alloc, &all, &mut source, &mut sink, ());
-    Ok(outcome.status)
+    let Outcome { status, volume: () } = xod_quiet(alloc, &all, &mut source, &mut sink, ());
+    Ok(status)
 }
 
 #[test]
