@@ -19,9 +19,10 @@ pub fn list_entity(
     id: EntityId,
     kind: Text,
 ) -> Result<(), Memory>
-    ensures types { types.new.items ≡ (if is_ok result then with_name types.old.items kind else types.old.items) }
-    ensures nexts { nexts.new.items
-        ≡ (if is_ok result then with_next nexts.old.items id.kind (id.local + 1) else nexts.old.items) }
+    ensures types { types.new.items
+        ≡ (if is_ok result then with_name types.old.items kind else types.old.items) }
+    ensures nexts { nexts.new.items ≡ (if is_ok result
+        then with_next nexts.old.items id.kind (id.local + 1) else nexts.old.items) }
     ensures ids { ids.new ≡ (if is_ok result then insert ids.old id tt else ids.old) }
 {
     types.reserve(1)?;
@@ -41,7 +42,8 @@ pub fn list_value(
     name: &Text,
     value: &Value,
 ) -> Result<(), Memory>
-    ensures props { props.new.items ≡ (if is_ok result then with_name props.old.items name.now else props.old.items) }
+    ensures props { props.new.items
+        ≡ (if is_ok result then with_name props.old.items name.now else props.old.items) }
     ensures values { values.new
         ≡ (if is_ok result then insert values.old (id, name.now) value.now else values.old) }
     ensures text { OnOk result (IsTrue (is_text name.now)) }

@@ -1,10 +1,10 @@
 //! The values of properties, in a list that rises by entity and by the property's name.
-ghost use Rattle.std.specs.Prelude.{◌≡◌, map as mapped, is_ok, if◌then◌else◌, not, IfOk, IfErr, OnOk, OnErr};
+ghost use Rattle.std.specs.Prelude.{◌≡◌, is_ok, if◌then◌else◌, not, IfOk, IfErr, OnOk, OnErr};
 ghost use Rattle.std.specs.List.{filter};
 ghost use Rattle.std.specs.Option.{option_copied};
 ghost use Rattle.std.specs.FinMap.{empty, get, insert, put, remove};
 ghost use Rattle.xod_base.specs.Rows.{cell_cmp};
-ghost use Rattle.xod_model.specs.Entries.{cell_entry, is_at};
+ghost use Rattle.xod_model.specs.Entries.{cell_entries, is_at};
 ghost use Rattle.xod_model.specs.Places.{IsGap, IsPlace};
 
 use std::alloc::Global;
@@ -27,7 +27,7 @@ pub struct CellMap {
 }
 
 impl Model for CellMap {
-    ghost use Rattle.std.specs.Prelude.{map, IsTrue};
+    ghost use Rattle.std.specs.Prelude.{IsTrue};
     ghost use Rattle.std.specs.FinMap.{FinMap, from_sorted, is_sorted};
     ghost use Rattle.xod_base.specs.declared.value.Value.{Value as ValueOf};
     ghost use Rattle.xod_base.specs.Rows.{cell_cmp, values_code};
@@ -36,11 +36,11 @@ impl Model for CellMap {
 
     ghost coded = { values_code };
 
-    ghost use Rattle.xod_model.specs.Entries.{cell_entry, is_at};
+    ghost use Rattle.xod_model.specs.Entries.{cell_entries};
 
-    ghost view = { λ m. from_sorted (map cell_entry m.items.items) };
+    ghost view = { λ m. from_sorted (cell_entries m.items.items) };
 
-    ghost invariant = { λ m. IsTrue (is_sorted cell_cmp (map cell_entry m.items.items)) };
+    ghost invariant = { λ m. IsTrue (is_sorted cell_cmp (cell_entries m.items.items)) };
 }
 
 /// How a property of an entity is to another one.
@@ -56,8 +56,8 @@ fn order(id: EntityId, name: &Text, other: &CellValue) -> Ordering
 
 /// Where a property of an entity is, or where it goes.
 fn place(cells: &[CellValue], id: EntityId, name: &Text) -> Result<usize, usize>
-    ensures found { IfOk result (λ i. IsPlace cell_cmp (mapped cell_entry cells.now) (id, name.now) i) }
-    ensures absent { IfErr result (λ i. IsGap cell_cmp (mapped cell_entry cells.now) (id, name.now) i) }
+    ensures found { IfOk result (λ i. IsPlace cell_cmp (cell_entries cells.now) (id, name.now) i) }
+    ensures absent { IfErr result (λ i. IsGap cell_cmp (cell_entries cells.now) (id, name.now) i) }
 {
     for (i, cell) in cells.iter().enumerate() {
         match order(id, name, cell) {
@@ -71,8 +71,8 @@ fn place(cells: &[CellValue], id: EntityId, name: &Text) -> Result<usize, usize>
 
 /// Puts a value in its place in a list that rises.
 fn put_cell(cells: &mut Vec<CellValue>, cell: CellValue) -> Result<(), Memory>
-    ensures ok { OnOk result (mapped cell_entry cells.new.items
-        ≡ put cell_cmp (cell.id, cell.name) cell.value (mapped cell_entry cells.old.items)) }
+    ensures ok { OnOk result (cell_entries cells.new.items
+        ≡ put cell_cmp (cell.id, cell.name) cell.value (cell_entries cells.old.items)) }
     ensures err { OnErr result (cells.new.items ≡ cells.old.items) }
 {
     match place(cells, cell.id, &cell.name) {

@@ -25,7 +25,8 @@ fn has_value(
     prop: &Text,
     key: &Bytes,
 ) -> Result<bool, Memory>
-    ensures { IfOk result (λ has. has ≡ has_value_test rows.now prop.now (has_key_test key.now) id) }
+    ensures { IfOk result (λ has.
+        has ≡ has_value_test rows.now prop.now (has_key_test key.now) id) }
 {
     match rows.value(id, prop) {
         None => Ok(false),
@@ -44,7 +45,8 @@ fn with_key(
     prop: &Text,
     key: &Bytes,
 ) -> Result<IdList, Memory>
-    ensures { IfOk result (λ found. found ≡ filter (has_value_test rows.now prop.now (has_key_test key.now)) ids.now) }
+    ensures { IfOk result (λ found.
+        found ≡ filter (has_value_test rows.now prop.now (has_key_test key.now)) ids.now) }
 {
     let mut found = IdList::new(alloc);
     for id in ids.as_slice() {

@@ -64,7 +64,8 @@ pub fn value_set(
     old: Option<&Value>,
     new: &Value,
 ) -> Result<ChangeList, Memory>
-    ensures { IfOk result (λ changes. changes ≡ RowChange.Prop id name.now (option_copied old.entry) (Some new.now) ∷ []) }
+    ensures { IfOk result (λ changes.
+        changes ≡ RowChange.Prop id name.now (option_copied old.entry) (Some new.now) ∷ []) }
 {
     let change = RowChange::Prop {
         id,

@@ -1,10 +1,10 @@
 //! The ids of the entities that are there, in a list that rises.
-ghost use Rattle.std.specs.Prelude.{◌≡◌, ◌==◌, map as mapped, is_ok, is_some, if◌then◌else◌, IfOk, IfErr, OnOk, OnErr};
+ghost use Rattle.std.specs.Prelude.{◌≡◌, ◌==◌, is_ok, is_some, if◌then◌else◌, IfOk, IfErr, OnOk, OnErr};
 ghost use Rattle.std.specs.List.{filter, list_any};
 ghost use Rattle.std.specs.Ordering.{eq_by_cmp};
 ghost use Rattle.std.specs.FinMap.{empty, get, insert, keys, put};
 ghost use Rattle.xod_base.specs.Rows.{id_cmp};
-ghost use Rattle.xod_model.specs.Entries.{id_entry};
+ghost use Rattle.xod_model.specs.Entries.{id_entries};
 ghost use Rattle.xod_model.specs.Places.{IsGap, IsPlace};
 
 use std::alloc::Global;
@@ -19,7 +19,7 @@ pub struct IdSet {
 }
 
 impl Model for IdSet {
-    ghost use Rattle.std.specs.Prelude.{map, IsTrue};
+    ghost use Rattle.std.specs.Prelude.{IsTrue};
     ghost use Rattle.std.specs.FinMap.{FinMap, from_sorted, is_sorted};
     ghost use Rattle.xod_base.specs.Rows.{id_cmp, ids_code};
 
@@ -27,11 +27,11 @@ impl Model for IdSet {
 
     ghost coded = { ids_code };
 
-    ghost use Rattle.xod_model.specs.Entries.{id_entry};
+    ghost use Rattle.xod_model.specs.Entries.{id_entries};
 
-    ghost view = { λ s. from_sorted (map id_entry s.items.items) };
+    ghost view = { λ s. from_sorted (id_entries s.items.items) };
 
-    ghost invariant = { λ s. IsTrue (is_sorted id_cmp (map id_entry s.items.items)) };
+    ghost invariant = { λ s. IsTrue (is_sorted id_cmp (id_entries s.items.items)) };
 }
 
 /// How an id is to another one.
@@ -43,8 +43,8 @@ fn order(id: EntityId, other: EntityId) -> Ordering
 
 /// Where an id is, or where it goes.
 fn place(ids: &[EntityId], id: EntityId) -> Result<usize, usize>
-    ensures found { IfOk result (λ i. IsPlace id_cmp (mapped id_entry ids.now) id i) }
-    ensures absent { IfErr result (λ i. IsGap id_cmp (mapped id_entry ids.now) id i) }
+    ensures found { IfOk result (λ i. IsPlace id_cmp (id_entries ids.now) id i) }
+    ensures absent { IfErr result (λ i. IsGap id_cmp (id_entries ids.now) id i) }
 {
     for (i, other) in ids.iter().enumerate() {
         match order(id, *other) {
@@ -58,7 +58,7 @@ fn place(ids: &[EntityId], id: EntityId) -> Result<usize, usize>
 
 /// Puts an id in its place in a list that rises.
 fn put_id(ids: &mut Vec<EntityId>, id: EntityId) -> Result<(), Memory>
-    ensures ok { OnOk result (mapped id_entry ids.new.items ≡ put id_cmp id tt (mapped id_entry ids.old.items)) }
+    ensures ok { OnOk result (id_entries ids.new.items ≡ put id_cmp id tt (id_entries ids.old.items)) }
     ensures err { OnErr result (ids.new.items ≡ ids.old.items) }
 {
     match place(ids, id) {

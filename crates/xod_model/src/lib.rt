@@ -22,3 +22,6 @@ pub use expansion::answer_to;
 pub use journal::{JournalEntry, Step};
 pub use laws::{changes_keep_sound, expansions_fit, journals_go_on, same_is_equal};
 pub use rows::Rows;
+
+#[cfg(test)]
+mod tests;

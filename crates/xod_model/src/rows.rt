@@ -7,12 +7,12 @@ ghost use Rattle.std.specs.FinMap.{get};
 ghost use Rattle.std.specs.Option.{option_copied};
 ghost use Rattle.xod_base.specs.Evaluation.{ids_of as all_ids_of};
 ghost use Rattle.xod_base.specs.Rows.{is_sound, no_rows};
-ghost use Rattle.xod_model.specs.Changes.{all_applied, all_fit, applied, fits, expansion_of, has_names, kind_number, new_expansion, set_expansion};
-ghost use Rattle.xod_model.specs.Refusals.{Refuses};
+ghost use Rattle.xod_model.specs.Changes.{all_applied, all_fit, applied, fits, expansion_of, has_names};
 ghost use Rattle.xod_model.specs.Fitting.{CanTake};
+ghost use Rattle.xod_model.specs.Refusals.{Refuses};
 
-use crate::cells::CellMap;
 use crate::applying::{list_entity, list_value};
+use crate::cells::CellMap;
 use crate::change::{ChangeList, RowChange};
 use crate::expansion::{entity_added, is_same, text_length, value_set};
 use crate::ids::IdSet;
@@ -91,9 +91,11 @@ impl Rows {
         }
     }
 
+    /// The change that makes an entity, or the first reason to refuse it.
     fn expand_new(&self, alloc: Global, kind: &Text) -> Result<ChangeList, StmtError>
-        ensures changes { IfOk result (λ changes. new_expansion self.now kind.now (kind_number self.now.types kind.now) ≡ Ok changes) }
-        ensures refused { IfErr result (λ error. Refuses (new_expansion self.now kind.now (kind_number self.now.types kind.now)) error) }
+        ensures changes { IfOk result (λ changes. expansion_of self.now (Act.New kind.now) ≡ Ok changes) }
+        ensures refused { IfErr result (λ error.
+            Refuses (expansion_of self.now (Act.New kind.now)) error) }
     {
         if !has_room(&self.types, kind) {
             return Err(StmtError::TooMany {
@@ -116,6 +118,7 @@ impl Rows {
         }
     }
 
+    /// The change that sets a property, or the first reason to refuse it.
     fn expand_set(
         &self,
         alloc: Global,
@@ -123,8 +126,10 @@ impl Rows {
         prop: &Text,
         value: &Value,
     ) -> Result<ChangeList, StmtError>
-        ensures changes { IfOk result (λ changes. set_expansion self.now id prop.now value.now (get self.now.values (id, prop.now)) ≡ Ok changes) }
-        ensures refused { IfErr result (λ error. Refuses (set_expansion self.now id prop.now value.now (get self.now.values (id, prop.now))) error) }
+        ensures changes { IfOk result (λ changes.
+            expansion_of self.now (Act.Set id prop.now value.now) ≡ Ok changes) }
+        ensures refused { IfErr result (λ error.
+            Refuses (expansion_of self.now (Act.Set id prop.now value.now)) error) }
     {
         if !self.ids.has(id) {
             return Err(StmtError::NoEntity { id });
@@ -186,6 +191,7 @@ impl Rows {
         Ok(())
     }
 
+    /// Makes a change that fits. A refusal leaves the rows as they were.
     fn apply_one(&mut self, alloc: Global, change: &RowChange) -> Result<(), Memory>
         requires { IsTrue (fits self.old change.now) }
         ensures { self.new ≡ (if is_ok result then applied self.old change.now else self.old) }
@@ -208,24 +214,34 @@ impl Rows {
         Ok(())
     }
 
+    /// Makes a new entity.
     fn add_entity(&mut self, alloc: Global, id: EntityId, kind: &Text) -> Result<(), Memory>
         requires { IsTrue (fits self.old (RowChange.AddEntity id kind.now)) }
-        ensures { self.new ≡ (if is_ok result then applied self.old (RowChange.AddEntity id kind.now) else self.old) }
+        ensures { self.new
+            ≡ (if is_ok result then applied self.old (RowChange.AddEntity id kind.now) else self.old) }
     {
         let kind = kind.try_clone(alloc)?;
         list_entity(&mut self.types, &mut self.nexts, &mut self.ids, id, kind)?;
         Ok(())
     }
 
-    fn set_value(&mut self, alloc: Global, id: EntityId, name: &Text, value: &Value) -> Result<(), Memory>
+    /// Sets a property.
+    fn set_value(
+        &mut self,
+        alloc: Global,
+        id: EntityId,
+        name: &Text,
+        value: &Value,
+    ) -> Result<(), Memory>
         requires { CanTake self.old id name.now (Some value.now) }
-        ensures { self.new
-            ≡ (if is_ok result then applied self.old (RowChange.Prop id name.now None (Some value.now)) else self.old) }
+        ensures { self.new ≡ (if is_ok result
+            then applied self.old (RowChange.Prop id name.now None (Some value.now)) else self.old) }
     {
         list_value(alloc, &mut self.props, &mut self.values, id, name, value)?;
         Ok(())
     }
 
+    /// Takes a property from its entity.
     fn remove_value(&mut self, id: EntityId, name: &Text)
         ensures { self.new ≡ applied self.old (RowChange.Prop id name.now None None) }
     {

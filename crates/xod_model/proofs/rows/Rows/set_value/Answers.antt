@@ -10,4 +10,4 @@ invariant_of-self-2 c =
     let is = c.in_ok-list_value.ensures in
     (λ i. is_sound (record { types = c.self.inside.types.items; props = is.props i; nexts = c.self.inside.nexts.items; ids = c.self.inside.ids; values = is.values i }))
     ∙ sound_from _ (sound_with_value rows c.args.id c.args.name.now None (Some c.args.value.now) (sound_facts rows c.self.invariant)
-      (subst (λ r. CanTake r c.args.id c.args.name.now (Some c.args.value.now)) (sym c.self.view_is) c.requires) is.text is.valid)
+    (subst (λ r. CanTake r c.args.id c.args.name.now (Some c.args.value.now)) (sym c.self.view_is) c.requires) is.text is.valid)
