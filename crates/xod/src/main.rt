@@ -1,10 +1,10 @@
 //! The program: it makes the real objects, hands them to the top call, and ends with its status.
 #![tactic(auto)]
 
-use std::io;
 use std::process::ExitCode;
 use std::rt::Env;
-use std::{env, vec::Vec};
+use std::vec::Vec;
+use std::{env, io};
 use xod_io::{StdSink, StdSource};
 use xod_shell::{Outcome, xod_quiet};
 

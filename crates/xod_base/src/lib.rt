@@ -19,3 +19,6 @@ pub use listed::{Bytes, Listed};
 pub use query::{Act, Mode, Query};
 pub use text::{Text, is_utf8};
 pub use value::{EntityId, Value};
+
+#[cfg(test)]
+mod tests;

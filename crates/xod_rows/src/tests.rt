@@ -11,7 +11,7 @@ use xod_shell::{Outcome, xod_quiet};
 
 /// The status of a run of `replay` over an input, and what it wrote.
 #[derive(Drop)]
-pub(crate) struct Ran {
+pub(crate) struct Run {
     pub status: u8,
     pub text: Vec<u8>,
 }
@@ -22,18 +22,18 @@ pub(crate) fn ran_with(
     input: &[u8],
     source_fails: &[u64],
     sink_fails: &[u64],
-) -> Result<Ran, Fail> {
+) -> Result<Run, Fail> {
     let words = vec![in alloc; String::from_str(alloc, "replay")?]?;
     let mut source = MemorySource::new(alloc, input, source_fails)?;
     let mut sink = MemorySink::new(alloc, sink_fails)?;
     let Outcome { status, volume: () } = xod_quiet(alloc, &words, &mut source, &mut sink, ());
-    Ok(Ran {
+    Ok(Run {
         status,
         text: Vec::from_slice(alloc, sink.bytes())?,
     })
 }
 
 /// Runs `replay` over an input without faults.
-pub(crate) fn ran(alloc: Global, input: &[u8]) -> Result<Ran, Fail> {
+pub(crate) fn ran(alloc: Global, input: &[u8]) -> Result<Run, Fail> {
     ran_with(alloc, input, &[], &[])
 }

@@ -27,21 +27,21 @@ module _ (name : List ℕ) (step : Turned) (store : Store) where
       elim (has_name session) as (λ b. cond b (Some i) (position_from has_name (i + 1) more) ≡ Some place
       → TurnAt (session ∷ more) step store i place (cond b (in_front more (turn_taken step store session)) (beside session (named_turn_taken name step store more)))) [
         | true ↦ λ at. let here : i ≡ place = cc in record {
-            j = 0;
-            is = omega arith;
-            within = omega arith;
-            done = λ d s now took. ap (in_front more) took;
-            refused = λ d took. ap (in_front more) took;
-          }
+          j = 0;
+          is = omega arith;
+          within = omega arith;
+          done = λ d s now took. ap (in_front more) took;
+          refused = λ d took. ap (in_front more) took;
+        }
         | false ↦ λ at. let rest = turn-at (i + 1) place more at in
-          let is = rest.is in let within = rest.within in
-          record {
-            j = suc rest.j;
-            is = omega arith;
-            within = omega arith;
-            done = λ d s now took. ap (beside session) (rest.done d s now took);
-            refused = λ d took. ap (beside session) (rest.refused d took);
-          }
+            let is = rest.is in let within = rest.within in
+            record {
+              j = suc rest.j;
+              is = omega arith;
+              within = omega arith;
+              done = λ d s now took. ap (beside session) (rest.done d s now took);
+              refused = λ d took. ap (beside session) (rest.refused d took);
+            }
       ] e
 
   pub turn-nowhere : (i : ℕ) (sessions : List SessionState) → position_from has_name i sessions ≡ None → named_turn_taken name step store sessions ≡ None

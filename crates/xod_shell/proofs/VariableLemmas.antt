@@ -25,8 +25,8 @@ module _ (name : List ℕ) (id : EntityId) where
       → SetAt (variable ∷ more) id i place (cond b (record variable { id = id } ∷ more) (variable ∷ with_variable more name id))) [
         | true ↦ λ at. let here : i ≡ place = cc in record { j = 0; is = omega arith; within = omega arith; after = λ d. refl }
         | false ↦ λ at. let rest = with_variable-at (i + 1) place more at in
-          let is = rest.is in let within = rest.within in
-          record { j = suc rest.j; is = omega arith; within = omega arith; after = λ d. ap (λ vs. variable ∷ vs) (rest.after d) }
+            let is = rest.is in let within = rest.within in
+            record { j = suc rest.j; is = omega arith; within = omega arith; after = λ d. ap (λ vs. variable ∷ vs) (rest.after d) }
       ] e
 
   pub with_variable-new : (i : ℕ) (variables : List Variable) → position_from named i variables ≡ None → with_variable variables name id ≡ variables ++ (record { name = name; id = id }) ∷ []

@@ -5,14 +5,11 @@ mod answered;
 mod dialogue;
 mod play;
 mod state;
-
-
 mod store;
 mod txn;
 mod variables;
 
 pub use answered::{Answered, Variable};
-
 pub use play::{Replayed, World, replay};
 pub use state::Session;
 pub use store::Store;

@@ -5,7 +5,8 @@ use std::test::Fail;
 use xod_io::{MemorySink, MemorySource};
 use xod_shell::{Outcome, xod_quiet};
 
-const INPUT: &[u8] = b"session a\nbegin\nnew T as $x\nset $x p 3\nquery find T p 3\ncommit\norder\nturn a begin\nturn a flush\nturn a end\n";
+const INPUT: &[u8] =
+    b"session a\nbegin\nnew T as $x\nset $x p 3\nquery find T p 3\ncommit\norder\nturn a begin\nturn a flush\nturn a end\n";
 
 #[test]
 fn a_source_that_fails_is_told(rt: HostRuntime) -> Result<(), Fail> {
@@ -22,7 +23,11 @@ fn a_source_that_fails_is_told(rt: HostRuntime) -> Result<(), Fail> {
 
 #[test]
 fn a_sink_that_fails_takes_the_place_of_any_status(rt: HostRuntime) -> Result<(), Fail> {
-    for input in [INPUT, b"frob\n".as_slice(), b"session a\nbegin\ncommit\n".as_slice()] {
+    for input in [
+        INPUT,
+        b"frob\n".as_slice(),
+        b"session a\nbegin\ncommit\n".as_slice(),
+    ] {
         let run = ran_with(rt.alloc(), input, &[], &[0])?;
         assert_eq!(rt; run.status, 7, "of {input:?}");
         assert!(rt; run.text.is_empty());

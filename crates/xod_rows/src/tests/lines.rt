@@ -20,7 +20,11 @@ fn the_first_bad_line_is_told(rt: HostRuntime) -> Result<(), Fail> {
         ("order # no\n", 3, "xod: script line 1\n"),
         ("begin\n", 3, "xod: script line 1\n"),
         ("session a\nnew T as $x\n", 3, "xod: script line 2\n"),
-        ("session a\nbegin\nbegin\ncommit\norder\n", 3, "xod: script line 3\n"),
+        (
+            "session a\nbegin\nbegin\ncommit\norder\n",
+            3,
+            "xod: script line 3\n",
+        ),
         ("session a\nsession b\norder\n", 3, "xod: script line 2\n"),
         ("order\norder\n", 3, "xod: script line 2\n"),
         ("order\nsession a\n", 3, "xod: script line 2\n"),
@@ -29,15 +33,39 @@ fn the_first_bad_line_is_told(rt: HostRuntime) -> Result<(), Fail> {
         ("order\nfill all T\n", 3, "xod: script line 2\n"),
         ("session a\nbegin\n", 3, "xod: script line 3\n"),
         ("session a\nbegin", 3, "xod: script line 3\n"),
-        ("session a\nbegin\n\n# left open\norder\n", 3, "xod: script line 5\n"),
+        (
+            "session a\nbegin\n\n# left open\norder\n",
+            3,
+            "xod: script line 5\n",
+        ),
         ("frob\nfrob\n", 3, "xod: script line 1\n"),
         ("session a\nbegin\nset $x p -0\n", 3, "xod: script line 3\n"),
-        ("session a\nbegin\nset $x p 007\n", 3, "xod: script line 3\n"),
+        (
+            "session a\nbegin\nset $x p 007\n",
+            3,
+            "xod: script line 3\n",
+        ),
         ("session a\nbegin\nset $x p +1\n", 3, "xod: script line 3\n"),
-        ("session a\nbegin\nset $x p 9223372036854775808\n", 3, "xod: script line 3\n"),
-        ("session a\nbegin\nset $x p -9223372036854775809\n", 3, "xod: script line 3\n"),
-        ("session a\nbegin\nset $x p \"a\"\n", 3, "xod: script line 3\n"),
-        ("session a\nbegin\nquery find T p true\n", 3, "xod: script line 3\n"),
+        (
+            "session a\nbegin\nset $x p 9223372036854775808\n",
+            3,
+            "xod: script line 3\n",
+        ),
+        (
+            "session a\nbegin\nset $x p -9223372036854775809\n",
+            3,
+            "xod: script line 3\n",
+        ),
+        (
+            "session a\nbegin\nset $x p \"a\"\n",
+            3,
+            "xod: script line 3\n",
+        ),
+        (
+            "session a\nbegin\nquery find T p true\n",
+            3,
+            "xod: script line 3\n",
+        ),
     ];
     for (input, status, text) in table {
         let run = ran(rt.alloc(), input.as_bytes())?;

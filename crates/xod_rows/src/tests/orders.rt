@@ -3,7 +3,8 @@ use super::ran;
 use std::test::Fail;
 
 /// One entity with a property, asked for and committed, without the order's last item.
-const WORKED: &str = "session a\nbegin\nnew T as $x\nset $x p 3\nquery find T p 3\ncommit\norder\nturn a begin\nturn a flush\n";
+const WORKED: &str =
+    "session a\nbegin\nnew T as $x\nset $x p 3\nquery find T p 3\ncommit\norder\nturn a begin\nturn a flush\n";
 
 #[test]
 fn worked_inputs_print_what_is_written(rt: HostRuntime) -> Result<(), Fail> {
@@ -38,9 +39,21 @@ fn the_first_item_that_cannot_be_taken_is_told(rt: HostRuntime) -> Result<(), Fa
         ("order\n", 9, "xod: order item 1\n"),
         ("order\nturn b begin\n", 9, "xod: order item 1\n"),
         ("order\nturn a flush\n", 9, "xod: order item 1\n"),
-        ("order\n# no item\n\nturn a begin\nturn a begin\n", 9, "xod: order item 2\n"),
-        ("order\nturn a begin\nturn a flush\n", 9, "xod: order item 3\n"),
-        ("order\nturn a begin\nturn a flush\nturn a end\nturn a begin\n", 9, "xod: order item 4\n"),
+        (
+            "order\n# no item\n\nturn a begin\nturn a begin\n",
+            9,
+            "xod: order item 2\n",
+        ),
+        (
+            "order\nturn a begin\nturn a flush\n",
+            9,
+            "xod: order item 3\n",
+        ),
+        (
+            "order\nturn a begin\nturn a flush\nturn a end\nturn a begin\n",
+            9,
+            "xod: order item 4\n",
+        ),
         (
             "order\nturn a begin\nturn a flush\nturn a end\n",
             0,

@@ -106,12 +106,7 @@ fn push_reply(alloc: Global, out: &mut Bytes, reply: &Reply) -> Result<(), Memor
 }
 
 /// Puts the line of an answer at the end: the number of its statement's line, and its text.
-pub fn print_answer(
-    alloc: Global,
-    out: &mut Bytes,
-    line: u32,
-    reply: &Reply,
-) -> Result<(), Memory>
+pub fn print_answer(alloc: Global, out: &mut Bytes, line: u32, reply: &Reply) -> Result<(), Memory>
     ensures { OnOk result (out.new ≡ out.old ++ answer_line line reply.now) }
 {
     let number = format!(in alloc; "{line}: ")?;

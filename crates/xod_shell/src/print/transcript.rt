@@ -69,7 +69,9 @@ fn push_total(
 ) -> Result<(), Memory>
     ensures { OnOk result (out.new ≡ out.old ++ total_line commit hits misses files) }
 {
-    let text = format!(in alloc; "total commit {commit} hits {hits} misses {misses} files {files}\n")?;
+    let text = format!(in alloc;
+        "total commit {commit} hits {hits} misses {misses} files {files}\n"
+    )?;
     out.extend(text.as_bytes())?;
     Ok(())
 }
@@ -120,7 +122,14 @@ pub fn print_transcript(
     let sessions = world.sessions();
     push_sessions(alloc, &mut out, sessions)?;
     let commit = world.store().commit();
-    push_total(alloc, &mut out, commit, hits_of(sessions), misses_of(sessions), files)?;
+    push_total(
+        alloc,
+        &mut out,
+        commit,
+        hits_of(sessions),
+        misses_of(sessions),
+        files,
+    )?;
     push_order(&mut out, order)?;
     Ok(out)
 }

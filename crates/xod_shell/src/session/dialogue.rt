@@ -214,12 +214,7 @@ impl Dialogue {
     }
 
     /// Takes a flush, where a transaction is open.
-    pub fn flush(
-        &mut self,
-        alloc: Global,
-        line: u32,
-        store: &mut Store,
-    ) -> Result<bool, Memory>
+    pub fn flush(&mut self, alloc: Global, line: u32, store: &mut Store) -> Result<bool, Memory>
         requires { store.old.commit + 1 < 2 ^ 64 }
         ensures step { IfOk result (λ taken. MatchBool taken
             (flushed store.old self.old line self.old.txn ≡ Some (store.new, self.new))

@@ -45,7 +45,9 @@ pub enum Replayed {
 fn place_of(sessions: &[Session], name: &Text) -> Option<usize>
     ensures { result ≡ position_from (λ session. same_bytes session.name name.now) 0 sessions.now }
 {
-    sessions.iter().position(|session| session.name().same(name))
+    sessions
+        .iter()
+        .position(|session| session.name().same(name))
 }
 
 /// Takes a turn of the session with a name.
@@ -133,11 +135,7 @@ impl World {
 }
 
 /// Plays an order from the first item on.
-pub fn replay(
-    alloc: Global,
-    scripts: SessionList,
-    order: &[OrderItem],
-) -> Result<Replayed, Memory>
+pub fn replay(alloc: Global, scripts: SessionList, order: &[OrderItem]) -> Result<Replayed, Memory>
     requires { IsTrue (list_all are_well_named scripts) }
     ensures { IfOk result (λ replayed. IsReplayed replayed
         (order_played (opening no_rows 0 scripts) (items_of order.now))) }

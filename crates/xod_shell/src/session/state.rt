@@ -100,12 +100,7 @@ impl Session {
     }
 
     /// Takes the shared step that the next statement is, where it is this one.
-    fn take_next(
-        &mut self,
-        alloc: Global,
-        step: Turned,
-        store: &mut Store,
-    ) -> Result<bool, Memory>
+    fn take_next(&mut self, alloc: Global, step: Turned, store: &mut Store) -> Result<bool, Memory>
         requires { store.old.commit + 1 < 2 ^ 64 }
         ensures step { IfOk result (λ taken. MatchBool taken
             (next_taken step store.old self.old self.old.dialogue self.old.rest ≡ Some (store.new, self.new))

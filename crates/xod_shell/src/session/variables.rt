@@ -24,7 +24,9 @@ pub fn id_of(variables: &[Variable], name: &Text) -> Option<EntityId>
 fn place_of(variables: &[Variable], name: &Text) -> Option<usize>
     ensures { result ≡ position_from (λ variable. same_bytes variable.name name.now) 0 variables.now }
 {
-    variables.iter().position(|variable| variable.name.same(name))
+    variables
+        .iter()
+        .position(|variable| variable.name.same(name))
 }
 
 /// Sets a variable, for the first time or anew.

@@ -67,9 +67,9 @@ impl Ending {
             Ending::SourceFailed => b"xod: source failed\n",
             Ending::TooLong => b"xod: script too long\n",
             Ending::NoMemory => b"xod: memory\n",
-            Ending::BadLine { text, .. } | Ending::Untaken { text, .. } | Ending::Printed { text } => {
-                text.as_slice()
-            }
+            Ending::BadLine { text, .. }
+            | Ending::Untaken { text, .. }
+            | Ending::Printed { text } => { text.as_slice() }
         }
     }
 }

@@ -35,7 +35,9 @@ fn play_to_the_end(alloc: Global, script: Script) -> Result<Ending, Memory>
     ensures { IfOk result (λ ending. IsPlayed script ending) }
 {
     let Script {
-        sessions, order, ..
+        sessions,
+        order,
+        ..
     } = script;
     match replay(alloc, sessions, order.as_slice())? {
         Replayed::Finished(world) => {
