@@ -1,0 +1,13 @@
+//! The bytes of the log: records, and the marks at which a body is whole.
+//!
+//! Nothing here opens a file. What the bytes mean stands in `specs/`, and with a worked example in docs/FORMATS.md.
+#![tactic(auto)]
+
+mod address;
+mod end_mark;
+mod laws;
+mod number;
+
+pub use address::Address;
+pub use end_mark::{EndMark, decode_mark, encode_mark};
+pub use laws::every_mark_comes_back;
