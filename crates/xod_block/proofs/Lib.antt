@@ -1,2 +1,5 @@
-pub mod Numbers
+pub mod Links
 pub mod MarkLemmas
+pub mod Numbers
+pub mod Parts
+pub mod RecordLemmas

@@ -1,2 +1,5 @@
 pub mod Bytes
 pub mod Marks
+pub mod Reading
+pub mod Records
+pub mod Seen
