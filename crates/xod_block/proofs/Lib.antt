@@ -1,3 +1,4 @@
+pub mod GrowthLemmas
 pub mod Links
 pub mod MarkLemmas
 pub mod Numbers

@@ -1,4 +1,5 @@
 pub mod Bytes
+pub mod Growth
 pub mod Marks
 pub mod Reading
 pub mod Records

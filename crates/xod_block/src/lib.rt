@@ -9,9 +9,11 @@ mod laws;
 mod log_record;
 mod number;
 mod reading;
+mod writing;
 
 pub use address::Address;
 pub use end_mark::{EndMark, decode_mark, encode_mark};
 pub use laws::every_mark_comes_back;
 pub use log_record::LogRecord;
 pub use reading::decode_record;
+pub use writing::encode_record;
