@@ -1,6 +1,6 @@
-pub mod GrowthLemmas
 pub mod Links
 pub mod MarkLemmas
 pub mod Numbers
 pub mod Parts
+pub mod Pieces
 pub mod RecordLemmas

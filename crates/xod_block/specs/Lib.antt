@@ -1,5 +1,5 @@
+pub mod Addresses
 pub mod Bytes
-pub mod Growth
 pub mod Marks
 pub mod Reading
 pub mod Records

@@ -1,4 +1,5 @@
 //! Where a record begins.
+ghost use Rattle.std.specs.Prelude.{◌≡◌, ◌<◌, ◌↔◌, IsTrue};
 
 /// A byte of a log file's body: the number of the log file, and the place in it from 0. Addresses are ordered by file,
 /// then place.
@@ -6,4 +7,15 @@
 pub struct Address {
     pub file: u32,
     pub at: u64,
+}
+
+impl Address {
+    ghost use Rattle.xod_block.specs.Addresses.{number_of};
+
+    /// Whether this address is less than another. A record may name only those below its own.
+    pub fn is_below(self, other: Address) -> bool
+        ensures { IsTrue result ↔ (number_of self < number_of other) }
+    {
+        self < other
+    }
 }

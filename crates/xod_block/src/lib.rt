@@ -6,6 +6,7 @@
 mod address;
 mod end_mark;
 mod laws;
+mod link;
 mod log_record;
 mod number;
 mod reading;
@@ -13,7 +14,8 @@ mod writing;
 
 pub use address::Address;
 pub use end_mark::{EndMark, decode_mark, encode_mark};
-pub use laws::every_mark_comes_back;
+pub use laws::{every_mark_comes_back, no_spelling_begins_another};
+pub use link::{child_at, encode_link, link_at};
 pub use log_record::LogRecord;
 pub use reading::decode_record;
 pub use writing::encode_record;

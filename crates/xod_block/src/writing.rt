@@ -7,8 +7,8 @@ ghost use Rattle.std.specs.Int.{w16, w64, to_be_bytes};
 ghost use Rattle.xod_block.specs.Records.{Leaf, Node, Root, FitsPart, FitsOwn, FitsLeaf, FitsNode, FitsRoot, spelling, part_bytes, own_bytes, links_bytes};
 ghost use Rattle.xod_block.specs.Reading.{links_in};
 ghost use Rattle.xod_block.specs.Seen.{seen, AreLinks, HasSpelling};
-ghost use Rattle.xod_block.specs.Growth.{Grows};
 
+use crate::link::count_of;
 use crate::log_record::LogRecord;
 use crate::number::{u16_bytes, u64_bytes};
 use std::alloc::Global;
@@ -17,7 +17,7 @@ use xod_base::{Bytes, Memory};
 
 fn put(out: &mut Vec<u8>, more: &[u8]) -> Result<(), Memory>
     ensures ok { OnOk result (out.new.items ≡ out.old.items ++ more.now) }
-    ensures kept { Grows out.old.items out.new.items }
+    ensures kept { take (length out.old.items) out.new.items ≡ out.old.items }
 {
     out.extend_from_slice(more)?;
     Ok(())
@@ -26,7 +26,7 @@ fn put(out: &mut Vec<u8>, more: &[u8]) -> Result<(), Memory>
 fn put_part(out: &mut Vec<u8>, part: &[u8]) -> Result<(), Memory>
     requires { FitsPart part.now }
     ensures ok { OnOk result (out.new.items ≡ out.old.items ++ part_bytes part.now) }
-    ensures kept { Grows out.old.items out.new.items }
+    ensures kept { take (length out.old.items) out.new.items ≡ out.old.items }
 {
     put(out, &u16_bytes(part.len() as u16))?;
     put(out, part)?;
@@ -36,7 +36,7 @@ fn put_part(out: &mut Vec<u8>, part: &[u8]) -> Result<(), Memory>
 fn put_own(out: &mut Vec<u8>, value: Option<&[u8]>) -> Result<(), Memory>
     requires { FitsOwn (option_copied value) }
     ensures ok { OnOk result (out.new.items ≡ out.old.items ++ own_bytes (option_copied value.entry)) }
-    ensures kept { Grows out.old.items out.new.items }
+    ensures kept { take (length out.old.items) out.new.items ≡ out.old.items }
 {
     match value {
         None => {
@@ -54,7 +54,7 @@ fn put_own(out: &mut Vec<u8>, value: Option<&[u8]>) -> Result<(), Memory>
 fn put_leaf(out: &mut Vec<u8>, key: &[u8], value: &[u8]) -> Result<(), Memory>
     requires { FitsLeaf key.now value.now }
     ensures ok { OnOk result (out.new.items ≡ out.old.items ++ spelling (Leaf key.now value.now)) }
-    ensures kept { Grows out.old.items out.new.items }
+    ensures kept { take (length out.old.items) out.new.items ≡ out.old.items }
 {
     put(out, &[1])?;
     put_part(out, key)?;
@@ -62,19 +62,12 @@ fn put_leaf(out: &mut Vec<u8>, key: &[u8], value: &[u8]) -> Result<(), Memory>
     Ok(())
 }
 
-/// How many links bytes are.
-fn count_of(links: &[u8]) -> usize
-    ensures { result ≡ length (links_in links.now) }
-{
-    links.len() / 13
-}
-
 fn put_children(out: &mut Vec<u8>, children: &[u8]) -> Result<(), Memory>
     requires whole { AreLinks children.now }
     requires few { length (links_in children.now) ≤ 256 }
     ensures ok { OnOk result (out.new.items
         ≡ out.old.items ++ to_be_bytes w16 (length (links_in children.now)) ++ links_bytes (links_in children.now)) }
-    ensures kept { Grows out.old.items out.new.items }
+    ensures kept { take (length out.old.items) out.new.items ≡ out.old.items }
 {
     put(out, &u16_bytes(count_of(children) as u16))?;
     put(out, children)?;
@@ -91,7 +84,7 @@ fn put_node(
     requires fits { FitsNode key.now (option_copied value) (links_in children.now) }
     ensures ok { OnOk result (out.new.items
         ≡ out.old.items ++ spelling (Node key.now (option_copied value.entry) (links_in children.now))) }
-    ensures kept { Grows out.old.items out.new.items }
+    ensures kept { take (length out.old.items) out.new.items ≡ out.old.items }
 {
     put(out, &[2])?;
     put_part(out, key)?;
@@ -105,7 +98,7 @@ fn put_trees(out: &mut Vec<u8>, trees: &[u8]) -> Result<(), Memory>
     requires few { length (links_in trees.now) ≤ 32 }
     ensures ok { OnOk result (out.new.items
         ≡ out.old.items ++ length (links_in trees.now) ∷ links_bytes (links_in trees.now)) }
-    ensures kept { Grows out.old.items out.new.items }
+    ensures kept { take (length out.old.items) out.new.items ≡ out.old.items }
 {
     put(out, &[count_of(trees) as u8])?;
     put(out, trees)?;
@@ -116,7 +109,7 @@ fn put_root(out: &mut Vec<u8>, commit: u64, trees: &[u8]) -> Result<(), Memory>
     requires whole { AreLinks trees.now }
     requires fits { FitsRoot commit (links_in trees.now) }
     ensures ok { OnOk result (out.new.items ≡ out.old.items ++ spelling (Root commit (links_in trees.now))) }
-    ensures kept { Grows out.old.items out.new.items }
+    ensures kept { take (length out.old.items) out.new.items ≡ out.old.items }
 {
     put(out, &[3, 1])?;
     put(out, &u64_bytes(commit))?;
@@ -127,7 +120,7 @@ fn put_root(out: &mut Vec<u8>, commit: u64, trees: &[u8]) -> Result<(), Memory>
 fn put_record(out: &mut Vec<u8>, item: &LogRecord<'_>) -> Result<(), Memory>
     requires { HasSpelling item.now }
     ensures ok { OnOk result (out.new.items ≡ out.old.items ++ spelling (seen item.now)) }
-    ensures kept { Grows out.old.items out.new.items }
+    ensures kept { take (length out.old.items) out.new.items ≡ out.old.items }
 {
     match *item {
         LogRecord::Leaf { key, value } => put_leaf(out, key, value),

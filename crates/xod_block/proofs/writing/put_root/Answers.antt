@@ -2,7 +2,7 @@ use Rattle.std.proofs.Common.{ℕ, List, [], ◌∷◌, ◌++◌, length, ap, �
 use Rattle.std.specs.Int.{w64, to_be_bytes}
 use Rattle.xod_block.specs.Records.{links_bytes}
 use Rattle.xod_block.specs.Reading.{links_in}
-use Rattle.xod_block.proofs.GrowthLemmas.{three_put}
+use Rattle.xod_block.proofs.Pieces.{three_put}
 use Rattle.xod_block.proofs.writing.put_root.Goals as goal
 
 pub returns-clause-ok : goal.returns-clause-ok
