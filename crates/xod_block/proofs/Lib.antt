@@ -1,4 +1,5 @@
 pub mod Links
+pub mod MapLemmas
 pub mod MarkLemmas
 pub mod Numbers
 pub mod Parts

@@ -2,6 +2,7 @@
 //!
 //! Each is a function that does nothing and ensures the law, so that a reader finds it among the contracts.
 ghost use Rattle.std.specs.Prelude.{◌≡◌, ◌<◌, ◌^◌, ◌++◌, List, [], ℕ};
+ghost use Rattle.xod_block.specs.Maps.{Source, map_at, pairs_of};
 ghost use Rattle.xod_block.specs.declared.end_mark.EndMark.{EndMark};
 ghost use Rattle.xod_block.specs.Marks.{mark_bytes, mark_of};
 ghost use Rattle.xod_block.specs.Records.{RecordValue, Fits, spelling};
@@ -15,4 +16,9 @@ pub fn every_mark_comes_back()
 /// between them.
 pub fn no_spelling_begins_another()
     ensures { (a b : RecordValue) (more : List ℕ) → Fits a → Fits b → spelling a ++ more ≡ spelling b → (a ≡ b) × (more ≡ []) }
+{}
+
+/// The map at an address is that of the record there, over the maps at the children that it names.
+pub fn map_of_a_record()
+    ensures { (source : Source) (at : ℕ) → map_at source at ≡ pairs_of (map_at source) at (source at) }
 {}

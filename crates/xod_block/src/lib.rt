@@ -5,6 +5,7 @@
 
 mod address;
 mod end_mark;
+mod fetch;
 mod laws;
 mod link;
 mod log_record;
@@ -14,7 +15,8 @@ mod writing;
 
 pub use address::Address;
 pub use end_mark::{EndMark, decode_mark, encode_mark};
-pub use laws::{every_mark_comes_back, no_spelling_begins_another};
+pub use fetch::Fetch;
+pub use laws::{every_mark_comes_back, map_of_a_record, no_spelling_begins_another};
 pub use link::{child_at, encode_link, link_at};
 pub use log_record::LogRecord;
 pub use reading::decode_record;
