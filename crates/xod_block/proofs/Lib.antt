@@ -1,3 +1,4 @@
+pub mod BodyLemmas
 pub mod Links
 pub mod MapLemmas
 pub mod MarkLemmas

@@ -81,12 +81,12 @@ first_links-fit (suc n) raw fits = (
 )
 
 -- how many links there are in bytes that are nothing else
-pub count_of-links_in : (raw : List ℕ) (n : ℕ) → length raw ≡ 13 * n → length raw / 13 ≡ n
-count_of-links_in raw n whole = omega arith
+pub whole_links-count : (raw : List ℕ) (n : ℕ) → length raw ≡ 13 * n → length raw / 13 ≡ n
+whole_links-count raw n whole = omega arith
 
 pub links_bytes-links_in : (raw : List ℕ) (n : ℕ) → length raw ≡ 13 * n → IsBytes raw → links_bytes (links_in raw) ≡ raw
 links_bytes-links_in raw n whole fits =
-    ap (λ (k : ℕ). links_bytes (first_links k raw)) (count_of-links_in raw n whole)
+    ap (λ (k : ℕ). links_bytes (first_links k raw)) (whole_links-count raw n whole)
     ∙ links_bytes-first_links n raw (omega arith) fits
     ∙ take_all (13 * n) raw (omega arith)
 
@@ -110,7 +110,7 @@ length-links_bytes (link ∷ links) = omega (arith, length-links_bytes links)
 
 pub links_in-links_bytes : (links : List Link) → AllByRecursion FitsLink links → links_in (links_bytes links) ≡ links
 links_in-links_bytes links fits =
-    ap (λ (k : ℕ). first_links k (links_bytes links)) (count_of-links_in (links_bytes links) (length links) (length-links_bytes links))
+    ap (λ (k : ℕ). first_links k (links_bytes links)) (whole_links-count (links_bytes links) (length links) (length-links_bytes links))
     ∙ ap (first_links (length links)) (sym (append-nil (links_bytes links)))
     ∙ first_links-again links [] fits
 

@@ -8,7 +8,7 @@ use Rattle.xod_block.specs.Bytes.{IsBytes}
 use Rattle.xod_block.specs.Records.{Link, FitsLink, FitsPart, FitsOwn, part_bytes, own_bytes, links_bytes}
 use Rattle.xod_block.specs.Reading.{◌>>=◌, byte_at, number_at, part_at, own_at, links_in, links_at}
 use Rattle.xod_block.proofs.Numbers.{IsBytes-drop, IsBytes-take, IsBytes-rest, IsWide, wide16}
-use Rattle.xod_block.proofs.Links.{links_bytes-links_in, length-first_links, first_links-fit, links_in-links_bytes, length-links_bytes, count_of-links_in}
+use Rattle.xod_block.proofs.Links.{links_bytes-links_in, length-first_links, first_links-fit, links_in-links_bytes, length-links_bytes, whole_links-count}
 
 -- ---- steps
 
@@ -127,7 +127,7 @@ links_splits count bytes x fits e =
     let whole : length raw ≡ 13 * count = omega (arith, length-take (13 * count) bytes) in
     let raw_fits = IsBytes-take (13 * count) bytes fits in
     let here : Splits bytes (links_bytes (links_in raw)) (drop (13 * count) bytes) = record { parts = sym (ap (λ (l : List ℕ). l ++ drop (13 * count) bytes) (links_bytes-links_in raw count whole raw_fits) ∙ take-append-drop (13 * count) bytes); rest_fits = IsBytes-drop (13 * count) bytes fits } in
-    let many : length (links_in raw) ≡ count = length-first_links (length raw / 13) raw ∙ count_of-links_in raw count whole in
+    let many : length (links_in raw) ≡ count = length-first_links (length raw / 13) raw ∙ whole_links-count raw count whole in
     subst (λ (y : List Link × List ℕ). Splits bytes (links_bytes y.0) y.1 × (length y.0 ≡ count) × AllByRecursion FitsLink y.0) g.1 (here, many, first_links-fit (length raw / 13) raw raw_fits)
 
 pub links_again : (links : List Link) (rest : List ℕ) → AllByRecursion FitsLink links → links_at (length links) (links_bytes links ++ rest) ≡ Some (links, rest)

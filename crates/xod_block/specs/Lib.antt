@@ -1,4 +1,5 @@
 pub mod Addresses
+pub mod Bodies
 pub mod Bytes
 pub mod Fetches
 pub mod Maps

@@ -4,6 +4,7 @@
 #![tactic(auto)]
 
 mod address;
+mod body_fetch;
 mod end_mark;
 mod fetch;
 mod laws;
@@ -14,10 +15,14 @@ mod reading;
 mod writing;
 
 pub use address::Address;
+pub use body_fetch::BodyFetch;
 pub use end_mark::{EndMark, decode_mark, encode_mark};
 pub use fetch::Fetch;
 pub use laws::{every_mark_comes_back, map_of_a_record, no_spelling_begins_another};
-pub use link::{child_at, encode_link, link_at};
+pub use link::{child_at, encode_link, link_at, link_count};
 pub use log_record::LogRecord;
 pub use reading::decode_record;
 pub use writing::encode_record;
+
+#[cfg(test)]
+mod tests;

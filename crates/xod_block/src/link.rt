@@ -40,7 +40,7 @@ fn first_link(bytes: &[u8]) -> (u8, Address)
 }
 
 /// How many links bytes are.
-pub(crate) fn count_of(links: &[u8]) -> usize
+pub fn link_count(links: &[u8]) -> usize
     ensures count { result ≡ length (links_in links.now) }
     ensures within { 13 * result ≤ length links.now }
     ensures small { 13 * result < 2 ^ 64 }
@@ -53,7 +53,7 @@ pub fn link_at(links: &[u8], index: usize) -> (u8, Address)
     requires { index < length (links_in links.now) }
     ensures { slice_get (links_in links.now) index ≡ Some result }
 {
-    let count = count_of(links);
+    let count = link_count(links);
     prove!(index < count);
     let (_, here) = links.split_at(13 * index);
     first_link(here)

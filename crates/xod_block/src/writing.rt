@@ -8,7 +8,7 @@ ghost use Rattle.xod_block.specs.Records.{Leaf, Node, Root, FitsPart, FitsOwn, F
 ghost use Rattle.xod_block.specs.Reading.{links_in};
 ghost use Rattle.xod_block.specs.Seen.{seen, AreLinks, HasSpelling};
 
-use crate::link::count_of;
+use crate::link::link_count;
 use crate::log_record::LogRecord;
 use crate::number::{u16_bytes, u64_bytes};
 use std::alloc::Global;
@@ -69,7 +69,7 @@ fn put_children(out: &mut Vec<u8>, children: &[u8]) -> Result<(), Memory>
         ≡ out.old.items ++ to_be_bytes w16 (length (links_in children.now)) ++ links_bytes (links_in children.now)) }
     ensures kept { take (length out.old.items) out.new.items ≡ out.old.items }
 {
-    put(out, &u16_bytes(count_of(children) as u16))?;
+    put(out, &u16_bytes(link_count(children) as u16))?;
     put(out, children)?;
     Ok(())
 }
@@ -100,7 +100,7 @@ fn put_trees(out: &mut Vec<u8>, trees: &[u8]) -> Result<(), Memory>
         ≡ out.old.items ++ length (links_in trees.now) ∷ links_bytes (links_in trees.now)) }
     ensures kept { take (length out.old.items) out.new.items ≡ out.old.items }
 {
-    put(out, &[count_of(trees) as u8])?;
+    put(out, &[link_count(trees) as u8])?;
     put(out, trees)?;
     Ok(())
 }
