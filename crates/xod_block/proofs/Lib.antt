@@ -1,6 +1,9 @@
+pub mod AddressLemmas
 pub mod BodyLemmas
+pub mod CallerLemmas
 pub mod Links
 pub mod MapLemmas
+pub mod MapOrder
 pub mod MarkLemmas
 pub mod Numbers
 pub mod Parts

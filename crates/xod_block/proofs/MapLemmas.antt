@@ -1,5 +1,5 @@
 -- The map at an address is that of its record over the maps at its children.
-use Rattle.std.proofs.Common.{◌≡◌, ℕ, zero, suc, ◌<◌, Bool, false, cond, ltb, List, [], ◌∷◌, ◌++◌, Option, Some, None, refl, sym, ap, ◌∙◌, arith, inl, inr}
+use Rattle.std.proofs.Common.{◌≡◌, ℕ, zero, suc, ◌<◌, ◌≤◌, Bool, false, cond, ltb, List, [], ◌∷◌, ◌++◌, Option, Some, None, refl, sym, ap, ◌∙◌, arith, inl, inr}
 use Rattle.std.specs.Option.{option_map}
 use Rattle.std.proofs.lemmas.Bool.{cases_lt, le-ltb}
 use Rattle.xod_block.specs.Addresses.{number_of}
@@ -38,3 +38,14 @@ map_within-same source (suc m) (suc n) at lm ln =
 pub map_at-step : (source : Source) (at : ℕ) → map_at source at ≡ pairs_of (map_at source) at (source at)
 unfolding map_at
 map_at-step source at = pairs_of-same (map_within source at) (λ below. map_within source (suc below) below) at (λ below lt. map_within-same source at (suc below) below lt (omega arith)) (source at)
+
+-- a map reads no address above its own
+map_within-agree : (s t : Source) (depth at : ℕ) → ((a : ℕ) → a ≤ at → s a ≡ t a) → map_within s depth at ≡ map_within t depth at
+map_within-agree s t zero at same = refl
+map_within-agree s t (suc depth) at same =
+    pairs_of-same (map_within s depth) (map_within t depth) at (λ below lt. map_within-agree s t depth below (λ a le. same a (omega (arith, le, lt)))) (s at)
+    ∙ ap (pairs_of (map_within t depth) at) (same at (omega arith))
+
+pub map_at-agree : (s t : Source) (at : ℕ) → ((a : ℕ) → a ≤ at → s a ≡ t a) → map_at s at ≡ map_at t at
+unfolding map_at
+map_at-agree s t at same = map_within-agree s t (suc at) at same

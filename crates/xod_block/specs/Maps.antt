@@ -1,14 +1,18 @@
 -- The map that a leaf or a node stands for, together with the records that it names.
-use Rattle.std.specs.Prelude.{ℕ, zero, suc, nat_lt, if◌then◌else◌, List, [], ◌∷◌, ◌++◌, map, Option, Some, None}
+use Rattle.std.specs.Prelude.{ℕ, zero, suc, nat_lt, if◌then◌else◌, List, [], ◌∷◌, ◌++◌, map, Option, Some, None, IfSome}
 use Rattle.std.specs.Option.{option_map}
 use Rattle.xod_block.specs.Addresses.{number_of}
-use Rattle.xod_block.specs.Records.{Link, RecordValue, Leaf, Node, Root}
+use Rattle.xod_block.specs.Records.{Link, RecordValue, Leaf, Node, Root, Fits}
 
 -- what stands at an address, which is written as a number: a record, where one stands there whole
 abbrev pub Source : Type 0
 Source = ℕ → Option RecordValue
 
--- a key and its value, for each key
+-- what stands anywhere has a spelling
+abbrev pub HasRecords : Source → Type 0
+HasRecords source = (at : ℕ) → IfSome (source at) Fits
+
+-- a key and its value, for each key, by rising key
 abbrev pub Pairs : Type 0
 Pairs = List (List ℕ × List ℕ)
 

@@ -18,7 +18,10 @@ pub use address::Address;
 pub use body_fetch::BodyFetch;
 pub use end_mark::{EndMark, decode_mark, encode_mark};
 pub use fetch::Fetch;
-pub use laws::{every_mark_comes_back, map_of_a_record, no_spelling_begins_another};
+pub use laws::{
+    addresses_go_by_number, every_mark_comes_back, keys_of_a_map_rise, later_records_change_no_map,
+    map_of_a_record, no_spelling_begins_another,
+};
 pub use link::{child_at, encode_link, link_at, link_count};
 pub use log_record::LogRecord;
 pub use reading::decode_record;

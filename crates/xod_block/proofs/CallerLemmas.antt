@@ -1,0 +1,22 @@
+-- What the crates above cite of records, links and maps.
+use Rattle.std.proofs.Common.{◌≡◌, ℕ, Bool, List, [], length, drop, Option, Some, sym, ap, ◌∙◌, refl}
+use Rattle.std.proofs.lemmas.List.{append-nil, drop_at}
+use Rattle.xod_block.specs.Fetches.{Fetched}
+use Rattle.xod_block.specs.Records.{RecordValue, spelling}
+use Rattle.xod_block.specs.Reading.{record_at}
+-- the order of addresses
+pub use Rattle.xod_block.proofs.AddressLemmas.{number_of-order, number_of-apart}
+-- a record and its bytes
+pub use Rattle.xod_block.proofs.RecordLemmas.{record_at-spelling, record_at-BeginsWith, record_at-from_BeginsWith, spelling-no_front}
+-- links and their bytes
+pub use Rattle.xod_block.proofs.Links.{links_in-links_bytes, links_bytes-links_in, length-links_bytes, length-first_links, slice_get-first_links}
+-- the map at an address: its one step, what it is made of, its order, and what does not change it
+pub use Rattle.xod_block.proofs.MapLemmas.{map_at-step, map_at-agree}
+pub use Rattle.xod_block.proofs.MapOrder.{Joins, children-join, children-not_empty, map_at-rises}
+
+-- what a fetch put out is read as the record that it fetched
+pub Fetched-record_at : (tells : Bool) (stands : Option RecordValue) (old new : List ℕ) (count : ℕ) (f : Fetched tells stands old new count) → record_at (drop (length old) new) ≡ Some (f.value, count)
+Fetched-record_at tells stands old new count f =
+    ap record_at (ap (drop (length old)) f.put ∙ drop_at old (spelling f.value) (length old) refl ∙ sym (append-nil (spelling f.value)))
+    ∙ record_at-spelling f.value [] f.fits
+    ∙ ap (λ (n : ℕ). Some (f.value, n)) (sym f.count_is)
