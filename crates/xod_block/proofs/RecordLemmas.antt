@@ -30,7 +30,7 @@ leaf_splits bytes x fits e =
     let t = part_splits a.0.1 b.0 s.0.rest_fits b.1 in
     let both = Splits-then bytes (part_bytes a.0.0) a.0.1 (part_bytes b.0.0) b.0.1 s.0 t.0 in
     let made : RecordValue × List ℕ = (Leaf a.0.0 b.0.0, b.0.1) in
-    subst (IsRecord 1 bytes) (some_is made x b.2) (before 1 bytes (part_bytes a.0.0 ++ part_bytes b.0.0) b.0.1 both, record { key_fits = s.1; value_fits = t.1 })
+    subst (IsRecord 1 bytes) {x = made} (some_is made x b.2) (before 1 bytes (part_bytes a.0.0 ++ part_bytes b.0.0) b.0.1 both, record { key_fits = s.1; value_fits = t.1 })
 
 leaf_again : (key value rest : List ℕ) → FitsLeaf key value → leaf_at (part_bytes key ++ part_bytes value ++ rest) ≡ Some (Leaf key value, rest)
 unfolding leaf_at
@@ -59,7 +59,7 @@ node_splits bytes x fits e =
     let four = Splits-then bytes (part_bytes a.0.0 ++ own_bytes b.0.0 ++ to_be_bytes w16 (length d.0.0)) c.0.1 (links_bytes d.0.0) d.0.1 three v.0 in
     let p = and_parts (leb (least_children b.0.0) c.0.0 && leb c.0.0 256) (rise d.0.0) g.0 in
     let q = and_parts (leb (least_children b.0.0) c.0.0) (leb c.0.0 256) p.0 in
-    subst (IsRecord 2 bytes) g.1 (
+    subst (IsRecord 2 bytes) {x = made} g.1 (
       before 2 bytes (part_bytes a.0.0 ++ own_bytes b.0.0 ++ to_be_bytes w16 (length d.0.0) ++ links_bytes d.0.0) d.0.1 four,
       record {
         key_fits = s.1;
@@ -108,7 +108,7 @@ root_splits bytes x fits e =
     let later = Splits-then b.0.1 (length d.0.0 ∷ []) c.0.1 (links_bytes d.0.0) d.0.1 count v.0 in
     let last = Splits-then a.0.1 (to_be_bytes w64 b.0.0) b.0.1 (length d.0.0 ∷ links_bytes d.0.0) d.0.1 t.0 later in
     let all = Splits-then bytes (1 ∷ []) a.0.1 (to_be_bytes w64 b.0.0 ++ length d.0.0 ∷ links_bytes d.0.0) d.0.1 format last in
-    subst (IsRecord 3 bytes) g.1 (
+    subst (IsRecord 3 bytes) {x = made} g.1 (
       before 3 bytes (1 ∷ to_be_bytes w64 b.0.0 ++ length d.0.0 ∷ links_bytes d.0.0) d.0.1 all,
       record {
         commit_fits = t.1;
