@@ -10,8 +10,8 @@ use Rattle.std.specs.Option.{option_map}
 use Rattle.std.proofs.lemmas.Bool.{and_parts, and_from, ltb-true}
 use Rattle.std.proofs.lemmas.Bool.Decides.{nat_tests}
 use Rattle.xod_block.specs.Addresses.{number_of}
-use Rattle.xod_block.specs.Records.{Link, RecordValue, Leaf, Node, Root, rise, Fits}
-use Rattle.xod_block.specs.Maps.{Source, HasRecords, Pairs, under, own_pair, joined, pairs_of_children, pairs_of, map_within, map_at}
+use Rattle.xod_block.specs.Records.{Link, RecordValue, Leaf, Node, Root, rise}
+use Rattle.xod_block.specs.Maps.{Source, HasRisingChildren, RisesEverywhere, Pairs, under, own_pair, joined, pairs_of_children, pairs_of, map_within, map_at}
 
 abbrev order : List ℕ → List ℕ → Ordering
 order = slice_cmp nat_cmp
@@ -138,20 +138,20 @@ opened : (o : Option Pairs) (key : List ℕ) (value : Option (List ℕ)) (pairs 
 opened None key value pairs e = absurd (cc e)
 opened (Some ps) key value pairs e = (ps, refl, cc e)
 
-record-rises : (below : ℕ → Option Pairs) (at : ℕ) → ((n : ℕ) (pairs : Pairs) → below n ≡ Some pairs → rising_keys pairs ≡ true) → (o : Option RecordValue) (pairs : Pairs) → IfSome o Fits → pairs_of below at o ≡ Some pairs → rising_keys pairs ≡ true
+record-rises : (below : ℕ → Option Pairs) (at : ℕ) → ((n : ℕ) (pairs : Pairs) → below n ≡ Some pairs → rising_keys pairs ≡ true) → (o : Option RecordValue) (pairs : Pairs) → IfSome o HasRisingChildren → pairs_of below at o ≡ Some pairs → rising_keys pairs ≡ true
 record-rises below at each None pairs fits e = absurd (cc e)
 record-rises below at each (Some (Leaf key value)) pairs fits e = let is : pairs ≡ (key, value) ∷ [] = cc e in ap rising_keys is
-record-rises below at each (Some (Node key value children)) pairs fits e =
+record-rises below at each (Some (Node key value children)) pairs rises e =
     let h = opened (pairs_of_children below at children) key value pairs e in
     ap rising_keys h.2
     ∙ rising-under key (own_pair value ++ h.0)
-    ∙ own-rises value h.0 (children-not_empty below at children h.0 h.1) (children-rise below at each children h.0 fits.rising h.1)
+    ∙ own-rises value h.0 (children-not_empty below at children h.0 h.1) (children-rise below at each children h.0 rises h.1)
 record-rises below at each (Some (Root commit trees)) pairs fits e = absurd (cc e)
 
-within-rises : (source : Source) → HasRecords source → (depth at : ℕ) (pairs : Pairs) → map_within source depth at ≡ Some pairs → rising_keys pairs ≡ true
+within-rises : (source : Source) → RisesEverywhere source → (depth at : ℕ) (pairs : Pairs) → map_within source depth at ≡ Some pairs → rising_keys pairs ≡ true
 within-rises source fits zero at pairs e = absurd (cc e)
 within-rises source fits (suc depth) at pairs e = record-rises (map_within source depth) at (within-rises source fits depth) (source at) pairs (fits at) e
 
-pub map_at-rises : (source : Source) (at : ℕ) (pairs : Pairs) → HasRecords source → map_at source at ≡ Some pairs → rising_keys pairs ≡ true
+pub map_at-rises : (source : Source) (at : ℕ) (pairs : Pairs) → RisesEverywhere source → map_at source at ≡ Some pairs → rising_keys pairs ≡ true
 unfolding map_at
 map_at-rises source at pairs fits e = within-rises source fits (suc at) at pairs e

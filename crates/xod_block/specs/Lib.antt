@@ -6,4 +6,5 @@ pub mod Maps
 pub mod Marks
 pub mod Reading
 pub mod Records
+pub mod Rising
 pub mod Seen

@@ -1,16 +1,22 @@
 -- The map that a leaf or a node stands for, together with the records that it names.
-use Rattle.std.specs.Prelude.{ℕ, zero, suc, nat_lt, if◌then◌else◌, List, [], ◌∷◌, ◌++◌, map, Option, Some, None, IfSome}
+use Rattle.std.specs.Prelude.{ℕ, zero, suc, nat_lt, if◌then◌else◌, List, [], ◌∷◌, ◌++◌, map, Option, Some, None, IfSome, IsTrue}
 use Rattle.std.specs.Option.{option_map}
 use Rattle.xod_block.specs.Addresses.{number_of}
-use Rattle.xod_block.specs.Records.{Link, RecordValue, Leaf, Node, Root, Fits}
+use Rattle.xod_block.specs.Records.{Link, RecordValue, Leaf, Node, Root, rise}
 
 -- what stands at an address, which is written as a number: a record, where one stands there whole
 abbrev pub Source : Type 0
 Source = ℕ → Option RecordValue
 
--- what stands anywhere has a spelling
-abbrev pub HasRecords : Source → Type 0
-HasRecords source = (at : ℕ) → IfSome (source at) Fits
+-- the child bytes of a node rise
+abbrev pub HasRisingChildren : RecordValue → Type 0
+HasRisingChildren (Leaf key value) = Unit {0}
+HasRisingChildren (Node key value children) = IsTrue (rise children)
+HasRisingChildren (Root commit trees) = Unit {0}
+
+-- they do at each address
+abbrev pub RisesEverywhere : Source → Type 0
+RisesEverywhere source = (at : ℕ) → IfSome (source at) HasRisingChildren
 
 -- a key and its value, for each key, by rising key
 abbrev pub Pairs : Type 0

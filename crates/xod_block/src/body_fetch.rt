@@ -43,6 +43,10 @@ impl Fetch for BodyFetch<'_> {
 
     ghost refs = { λ _. [] };
 
+    ghost use Rattle.xod_block.specs.Rising.{body_source-rises};
+
+    ghost rises = { λ fetch. body_source-rises fetch.file fetch.body.now };
+
     fn fetch(&mut self, _alloc: Global, at: Address, out: &mut Bytes) -> Result<usize, ReadError> {
         let place = Place {
             file: 2 * u64::from(at.file),

@@ -9,6 +9,7 @@ ghost use Rattle.xod_base.specs.declared.causes.Place.{Place};
 ghost use Rattle.xod_base.specs.declared.causes.ReadError.TheVariants.{Device, Damaged};
 ghost use Rattle.xod_block.specs.Addresses.{number_of};
 ghost use Rattle.xod_block.specs.Fetches.{Fetched, place_of};
+ghost use Rattle.xod_block.specs.Maps.{RisesEverywhere};
 ghost use Rattle.xod_block.specs.Records.{RecordValue};
 
 use crate::address::Address;
@@ -44,4 +45,7 @@ pub trait Fetch {
         ensures tells { tells self.new ≡ tells self.old }
         ensures source { source self.new ≡ source self.old }
         ensures refs { refs self.new ≡ refs self.old };
+
+    // So the keys of its maps rise, also those that no call has looked at.
+    ghost rises: { (fetch : Self) → RisesEverywhere (source fetch) };
 }

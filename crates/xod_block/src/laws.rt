@@ -2,7 +2,7 @@
 //!
 //! Each is a function that does nothing and ensures the law, so that a reader finds it among the contracts.
 ghost use Rattle.std.specs.Prelude.{◌≡◌, ◌<◌, ◌≤◌, ◌↔◌, ◌^◌, ◌++◌, List, [], ℕ, Some, true};
-ghost use Rattle.xod_block.specs.Maps.{Source, HasRecords, Pairs, map_at, pairs_of};
+ghost use Rattle.xod_block.specs.Maps.{Source, RisesEverywhere, Pairs, map_at, pairs_of};
 ghost use Rattle.std.specs.Ordering.{nat_cmp};
 ghost use Rattle.std.specs.Cmp.Lexicographic.{slice_cmp};
 ghost use Rattle.std.specs.FinMap.{is_sorted};
@@ -30,7 +30,7 @@ pub fn map_of_a_record()
 
 /// The keys of a map rise strictly, so it is a finite map and has each key once.
 pub fn keys_of_a_map_rise()
-    ensures { (source : Source) (at : ℕ) (pairs : Pairs) → HasRecords source → map_at source at ≡ Some pairs
+    ensures { (source : Source) (at : ℕ) (pairs : Pairs) → RisesEverywhere source → map_at source at ≡ Some pairs
         → is_sorted (slice_cmp nat_cmp) pairs ≡ true }
 {}
 
