@@ -23,7 +23,7 @@ Fetched-record_at tells stands old new count f =
     ∙ record_at-spelling f.value [] f.fits
     ∙ ap (λ (n : ℕ). Some (f.value, n)) (sym f.count_is)
 
--- What is read of a fetch into an empty list stands at that address, where the source tells. `read` and `n` are what decoding answers.
+-- What is read of a fetch into an empty list stands at that address, where the fetch tells. `read` and `n` are what decoding answers.
 pub Fetched-stands : (tells : Bool) (stands : Option RecordValue) (old new : List ℕ) (count : ℕ) (read : RecordValue) (n : ℕ) → Fetched tells stands old new count → old ≡ [] → IsTrue tells → record_at new ≡ Some (read, n) → stands ≡ Some read
 Fetched-stands tells stands old new count read n f empty told is =
     let pair : ℕ → RecordValue → RecordValue × ℕ = λ k v. (v, k) in

@@ -4,7 +4,7 @@ use Rattle.std.specs.Option.{option_map}
 use Rattle.std.proofs.lemmas.Bool.{cases_lt, le-ltb}
 use Rattle.xod_block.specs.Addresses.{number_of}
 use Rattle.xod_block.specs.Records.{Link, RecordValue, Leaf, Node, Root}
-use Rattle.xod_block.specs.Maps.{Source, Pairs, under, own_pair, joined, pairs_of_children, pairs_of, map_within, map_at}
+use Rattle.xod_block.specs.Maps.{RecordsAt, Pairs, under, own_pair, joined, pairs_of_children, pairs_of, map_within, map_at}
 
 -- only the maps below an address matter there
 pairs_of_children-same : (f g : ℕ → Option Pairs) (at : ℕ) → ((below : ℕ) → below < at → f below ≡ g below) → (children : List Link) → pairs_of_children f at children ≡ pairs_of_children g at children
@@ -29,23 +29,23 @@ pairs_of-same f g at same (Some (Node key value children)) = ap (option_map (λ 
 pairs_of-same f g at same (Some (Root commit trees)) = refl
 
 -- any bound above the address will do
-map_within-same : (source : Source) (m n at : ℕ) → at < m → at < n → map_within source m at ≡ map_within source n at
-map_within-same source zero n at lm ln = absurd (omega (arith, lm))
-map_within-same source (suc m) zero at lm ln = absurd (omega (arith, ln))
-map_within-same source (suc m) (suc n) at lm ln =
-    pairs_of-same (map_within source m) (map_within source n) at (λ below lt. map_within-same source m n below (omega (arith, lt, lm)) (omega (arith, lt, ln))) (source at)
+map_within-same : (records : RecordsAt) (m n at : ℕ) → at < m → at < n → map_within records m at ≡ map_within records n at
+map_within-same records zero n at lm ln = absurd (omega (arith, lm))
+map_within-same records (suc m) zero at lm ln = absurd (omega (arith, ln))
+map_within-same records (suc m) (suc n) at lm ln =
+    pairs_of-same (map_within records m) (map_within records n) at (λ below lt. map_within-same records m n below (omega (arith, lt, lm)) (omega (arith, lt, ln))) (records at)
 
-pub map_at-step : (source : Source) (at : ℕ) → map_at source at ≡ pairs_of (map_at source) at (source at)
+pub map_at-step : (records : RecordsAt) (at : ℕ) → map_at records at ≡ pairs_of (map_at records) at (records at)
 unfolding map_at
-map_at-step source at = pairs_of-same (map_within source at) (λ below. map_within source (suc below) below) at (λ below lt. map_within-same source at (suc below) below lt (omega arith)) (source at)
+map_at-step records at = pairs_of-same (map_within records at) (λ below. map_within records (suc below) below) at (λ below lt. map_within-same records at (suc below) below lt (omega arith)) (records at)
 
 -- a map reads no address above its own
-map_within-agree : (s t : Source) (depth at : ℕ) → ((a : ℕ) → a ≤ at → s a ≡ t a) → map_within s depth at ≡ map_within t depth at
+map_within-agree : (s t : RecordsAt) (depth at : ℕ) → ((a : ℕ) → a ≤ at → s a ≡ t a) → map_within s depth at ≡ map_within t depth at
 map_within-agree s t zero at same = refl
 map_within-agree s t (suc depth) at same =
     pairs_of-same (map_within s depth) (map_within t depth) at (λ below lt. map_within-agree s t depth below (λ a le. same a (omega (arith, le, lt)))) (s at)
     ∙ ap (pairs_of (map_within t depth) at) (same at (omega arith))
 
-pub map_at-agree : (s t : Source) (at : ℕ) → ((a : ℕ) → a ≤ at → s a ≡ t a) → map_at s at ≡ map_at t at
+pub map_at-agree : (s t : RecordsAt) (at : ℕ) → ((a : ℕ) → a ≤ at → s a ≡ t a) → map_at s at ≡ map_at t at
 unfolding map_at
 map_at-agree s t at same = map_within-agree s t (suc at) at same

@@ -11,7 +11,7 @@ use Rattle.std.proofs.lemmas.Bool.{and_parts, and_from, ltb-true}
 use Rattle.std.proofs.lemmas.Bool.Decides.{nat_tests}
 use Rattle.xod_block.specs.Addresses.{number_of}
 use Rattle.xod_block.specs.Records.{Link, RecordValue, Leaf, Node, Root, rise}
-use Rattle.xod_block.specs.Maps.{Source, HasRisingChildren, RisesEverywhere, Pairs, under, own_pair, joined, pairs_of_children, pairs_of, map_within, map_at}
+use Rattle.xod_block.specs.Maps.{RecordsAt, HasRisingChildren, RisesEverywhere, Pairs, under, own_pair, joined, pairs_of_children, pairs_of, map_within, map_at}
 
 abbrev order : List ℕ → List ℕ → Ordering
 order = slice_cmp nat_cmp
@@ -148,10 +148,10 @@ record-rises below at each (Some (Node key value children)) pairs rises e =
     ∙ own-rises value h.0 (children-not_empty below at children h.0 h.1) (children-rise below at each children h.0 rises h.1)
 record-rises below at each (Some (Root commit trees)) pairs fits e = absurd (cc e)
 
-within-rises : (source : Source) → RisesEverywhere source → (depth at : ℕ) (pairs : Pairs) → map_within source depth at ≡ Some pairs → rising_keys pairs ≡ true
-within-rises source fits zero at pairs e = absurd (cc e)
-within-rises source fits (suc depth) at pairs e = record-rises (map_within source depth) at (within-rises source fits depth) (source at) pairs (fits at) e
+within-rises : (records : RecordsAt) → RisesEverywhere records → (depth at : ℕ) (pairs : Pairs) → map_within records depth at ≡ Some pairs → rising_keys pairs ≡ true
+within-rises records fits zero at pairs e = absurd (cc e)
+within-rises records fits (suc depth) at pairs e = record-rises (map_within records depth) at (within-rises records fits depth) (records at) pairs (fits at) e
 
-pub map_at-rises : (source : Source) (at : ℕ) (pairs : Pairs) → RisesEverywhere source → map_at source at ≡ Some pairs → rising_keys pairs ≡ true
+pub map_at-rises : (records : RecordsAt) (at : ℕ) (pairs : Pairs) → RisesEverywhere records → map_at records at ≡ Some pairs → rising_keys pairs ≡ true
 unfolding map_at
-map_at-rises source at pairs fits e = within-rises source fits (suc at) at pairs e
+map_at-rises records at pairs fits e = within-rises records fits (suc at) at pairs e

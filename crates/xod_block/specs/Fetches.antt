@@ -4,7 +4,7 @@ use Rattle.xod_base.specs.declared.causes.Place.{Place}
 use Rattle.xod_block.specs.declared.address.Address.{Address}
 use Rattle.xod_block.specs.Records.{RecordValue, Fits, spelling}
 
--- One whole record was put at the end, and the number is its length. Where the source tells, that record stands there.
+-- One whole record was put at the end, and the number is its length. Where the fetch tells, that record stands there.
 pub record Fetched (tells : Bool) (stands : Option RecordValue) (old new : List ℕ) (count : ℕ) : Type 0 where
   pub value : RecordValue
   pub fits : Fits value

@@ -5,8 +5,8 @@ use Rattle.xod_block.specs.Addresses.{number_of}
 use Rattle.xod_block.specs.Records.{Link, RecordValue, Leaf, Node, Root, rise}
 
 -- what stands at an address, which is written as a number: a record, where one stands there whole
-abbrev pub Source : Type 0
-Source = ℕ → Option RecordValue
+abbrev pub RecordsAt : Type 0
+RecordsAt = ℕ → Option RecordValue
 
 -- the child bytes of a node rise
 abbrev pub HasRisingChildren : RecordValue → Type 0
@@ -15,8 +15,8 @@ HasRisingChildren (Node key value children) = IsTrue (rise children)
 HasRisingChildren (Root commit trees) = Unit {0}
 
 -- they do at each address
-abbrev pub RisesEverywhere : Source → Type 0
-RisesEverywhere source = (at : ℕ) → IfSome (source at) HasRisingChildren
+abbrev pub RisesEverywhere : RecordsAt → Type 0
+RisesEverywhere records = (at : ℕ) → IfSome (records at) HasRisingChildren
 
 -- a key and its value, for each key, by rising key
 abbrev pub Pairs : Type 0
@@ -57,10 +57,10 @@ pairs_of below at (Some (Node key value children)) = pairs_of_node below at key 
 pairs_of below at (Some (Root commit trees)) = None
 
 -- the map at an address, where no way down passes more than so many records
-abbrev pub map_within : Source → ℕ → ℕ → Option Pairs
-map_within source zero at = None
-map_within source (suc depth) at = pairs_of (map_within source depth) at (source at)
+abbrev pub map_within : RecordsAt → ℕ → ℕ → Option Pairs
+map_within records zero at = None
+map_within records (suc depth) at = pairs_of (map_within records depth) at (records at)
 
 -- the map at an address, since addresses fall on each way down; none where a place that is reached has no whole leaf or node
-unfoldable pub map_at : Source → ℕ → Option Pairs
-map_at source at = map_within source (suc at) at
+unfoldable pub map_at : RecordsAt → ℕ → Option Pairs
+map_at records at = map_within records (suc at) at

@@ -5,7 +5,7 @@ use Rattle.std.specs.Option.{option_map}
 use Rattle.std.specs.Int.{w16, w64}
 use Rattle.std.proofs.lemmas.Bool.{and_parts}
 use Rattle.std.proofs.lemmas.Option.{cond_some}
-use Rattle.xod_block.specs.Bodies.{body_source}
+use Rattle.xod_block.specs.Bodies.{body_records}
 use Rattle.xod_block.specs.Maps.{HasRisingChildren, RisesEverywhere}
 use Rattle.xod_block.specs.Records.{RecordValue, Leaf, Node, Root, rise, least_children}
 use Rattle.xod_block.specs.Reading.{◌>>=◌, byte_at, number_at, part_at, own_at, links_at, leaf_at, node_at, root_at, are_children, are_trees, record_and_rest, record_at}
@@ -90,5 +90,5 @@ either : (b : Bool) (o : Option RecordValue) → IfSome o HasRisingChildren → 
 either true o rises = rises
 either false o rises = tt
 
-pub body_source-rises : (file : ℕ) (body : List ℕ) → RisesEverywhere (body_source file body)
-body_source-rises file body number = either (eqb (number / 2 ^ 64) file) (option_map (λ found. found.0) (record_at (drop (number % 2 ^ 64) body))) (record_at-rises (drop (number % 2 ^ 64) body))
+pub body_records-rises : (file : ℕ) (body : List ℕ) → RisesEverywhere (body_records file body)
+body_records-rises file body number = either (eqb (number / 2 ^ 64) file) (option_map (λ found. found.0) (record_at (drop (number % 2 ^ 64) body))) (record_at-rises (drop (number % 2 ^ 64) body))

@@ -3,7 +3,7 @@
 //! It serves where no volume is at hand, as in the tests of the crates above.
 ghost use Rattle.std.specs.Prelude.{◌≡◌, drop, IfSome, IfNone, Option, None};
 ghost use Rattle.xod_block.specs.Reading.{record_at};
-ghost use Rattle.xod_block.specs.Bodies.{IsRecordAt, body_source};
+ghost use Rattle.xod_block.specs.Bodies.{IsRecordAt, body_records};
 
 use crate::address::Address;
 use crate::fetch::Fetch;
@@ -37,15 +37,15 @@ impl Fetch for BodyFetch<'_> {
 
     ghost tells = { λ _. true };
 
-    ghost source = { λ fetch. body_source fetch.file fetch.body.now };
+    ghost records = { λ fetch. body_records fetch.file fetch.body.now };
 
     ghost faults = { λ _. 0 };
 
     ghost refs = { λ _. [] };
 
-    ghost use Rattle.xod_block.specs.Rising.{body_source-rises};
+    ghost use Rattle.xod_block.specs.Rising.{body_records-rises};
 
-    ghost rises = { λ fetch. body_source-rises fetch.file fetch.body.now };
+    ghost rises = { λ fetch. body_records-rises fetch.file fetch.body.now };
 
     fn fetch(&mut self, _alloc: Global, at: Address, out: &mut Bytes) -> Result<usize, ReadError> {
         let place = Place {

@@ -16,15 +16,15 @@ use crate::address::Address;
 use std::alloc::Global;
 use xod_base::{Bytes, ReadError};
 
-/// A source of records.
+/// An object that has records by their address.
 ///
-/// `tells` says whether the records are known, `source` which record stands at an address where they are, and `faults`
+/// `tells` says whether the records are known, `records` which one stands at an address where they are, and `faults`
 /// how often the outside failed. `refs` names the references that an object holds, so that whoever lent them knows
 /// after a call that they are still there.
 pub trait Fetch {
     ghost tells: { Self → Bool };
 
-    ghost source: { Self → ℕ → Option RecordValue };
+    ghost records: { Self → ℕ → Option RecordValue };
 
     ghost faults: { Self → ℕ };
 
@@ -33,19 +33,21 @@ pub trait Fetch {
     /// Puts the bytes of the record at an address at the end of `out`, and answers how many they are.
     fn fetch(&mut self, alloc: Global, at: Address, out: &mut Bytes) -> Result<usize, ReadError>
         ensures found { IfOk result (λ count.
-            Fetched (tells self.old) (source self.old (number_of at)) out.old out.new count) }
-        ensures device_only_after_a_fault { result ≡ Err Device → Rose (faults self.old) (faults self.new) }
-        ensures damaged_only_without_a_record { IsTrue (tells self.old) → (place : Place) → result ≡ Err (Damaged place)
-            → source self.old (number_of at) ≡ None }
-        ensures damaged_names_this_place { (place : Place) → result ≡ Err (Damaged place) → place ≡ place_of at }
+            Fetched (tells self.old) (records self.old (number_of at)) out.old out.new count) }
+        ensures device_only_after_a_fault { result ≡ Err Device
+            → Rose (faults self.old) (faults self.new) }
+        ensures damaged_only_without_a_record { IsTrue (tells self.old) → (place : Place)
+            → result ≡ Err (Damaged place) → records self.old (number_of at) ≡ None }
+        ensures damaged_names_this_place { (place : Place)
+            → result ≡ Err (Damaged place) → place ≡ place_of at }
         ensures err { OnErr result (out.new ≡ out.old) }
 
         // No call changes anything but the count, which never falls.
         ensures count { faults self.old ≤ faults self.new }
         ensures tells { tells self.new ≡ tells self.old }
-        ensures source { source self.new ≡ source self.old }
+        ensures records { records self.new ≡ records self.old }
         ensures refs { refs self.new ≡ refs self.old };
 
     // So the keys of its maps rise, also those that no call has looked at.
-    ghost rises: { (fetch : Self) → RisesEverywhere (source fetch) };
+    ghost rises: { (fetch : Self) → RisesEverywhere (records fetch) };
 }

@@ -71,7 +71,8 @@ fn own_at(bytes: &[u8]) -> Option<(Option<&[u8]>, &[u8])>
 #[tactic(auto, unfolding(crate::specs::Reading::links_at))]
 fn links_at(count: usize, bytes: &[u8]) -> Option<(&[u8], &[u8])>
     requires { count ≤ 65535 }
-    ensures exactly { option_map (λ x. (links_in x.0.now, x.1.now)) result ≡ links_at count bytes.now }
+    ensures exactly { option_map (λ x. (links_in x.0.now, x.1.now)) result
+        ≡ links_at count bytes.now }
     ensures whole { IfSome result (λ x. AreLinks x.0.now) }
 {
     let length = 13 * count;
@@ -192,7 +193,8 @@ pub fn decode_record(bytes: &[u8]) -> Option<(LogRecord<'_>, usize)>
     ensures exactly { option_map (λ found. (seen found.0, found.1)) result ≡ record_at bytes.now }
     ensures found { IfSome result (λ found. BeginsWith bytes.now (seen found.0) found.1) }
     ensures encodable { IfSome result (λ found. HasSpelling found.0) }
-    ensures none { IfNone result ((value : RecordValue) (count : ℕ) → BeginsWith bytes.now value count → ⊥) }
+    ensures none { IfNone result ((value : RecordValue) (count : ℕ)
+        → BeginsWith bytes.now value count → ⊥) }
 {
     let (item, rest) = record_and_rest(bytes)?;
     Some((item, bytes.len() - rest.len()))

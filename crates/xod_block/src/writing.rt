@@ -35,7 +35,8 @@ fn put_part(out: &mut Vec<u8>, part: &[u8]) -> Result<(), Memory>
 
 fn put_own(out: &mut Vec<u8>, value: Option<&[u8]>) -> Result<(), Memory>
     requires { FitsOwn (option_copied value) }
-    ensures ok { OnOk result (out.new.items ≡ out.old.items ++ own_bytes (option_copied value.entry)) }
+    ensures ok { OnOk result (out.new.items
+        ≡ out.old.items ++ own_bytes (option_copied value.entry)) }
     ensures kept { take (length out.old.items) out.new.items ≡ out.old.items }
 {
     match value {
@@ -108,7 +109,8 @@ fn put_trees(out: &mut Vec<u8>, trees: &[u8]) -> Result<(), Memory>
 fn put_root(out: &mut Vec<u8>, commit: u64, trees: &[u8]) -> Result<(), Memory>
     requires whole { AreLinks trees.now }
     requires fits { FitsRoot commit (links_in trees.now) }
-    ensures ok { OnOk result (out.new.items ≡ out.old.items ++ spelling (Root commit (links_in trees.now))) }
+    ensures ok { OnOk result (out.new.items
+        ≡ out.old.items ++ spelling (Root commit (links_in trees.now))) }
     ensures kept { take (length out.old.items) out.new.items ≡ out.old.items }
 {
     put(out, &[3, 1])?;
