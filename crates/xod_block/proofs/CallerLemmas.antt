@@ -1,0 +1,32 @@
+-- What the crates above cite of records, links and maps.
+use Rattle.std.proofs.Common.{◌≡◌, ℕ, Bool, List, [], length, drop, Option, Some, sym, ap, ◌∙◌, refl}
+use Rattle.std.proofs.lemmas.List.{append-nil, drop_at}
+use Rattle.std.specs.Prelude.{IsTrue}
+use Rattle.xod_block.proofs.Parts.{some_is}
+use Rattle.xod_block.specs.Fetches.{Fetched}
+use Rattle.xod_block.specs.Records.{RecordValue, spelling}
+use Rattle.xod_block.specs.Reading.{record_at}
+-- the order of addresses
+pub use Rattle.xod_block.proofs.AddressLemmas.{number_of-order, number_of-apart}
+-- a record and its bytes
+pub use Rattle.xod_block.proofs.RecordLemmas.{record_at-spelling, record_at-BeginsWith, record_at-from_BeginsWith, spelling-no_front}
+-- links and their bytes
+pub use Rattle.xod_block.proofs.Links.{links_in-links_bytes, links_bytes-links_in, length-links_bytes, length-first_links, slice_get-first_links}
+-- the map at an address: its one step, what it is made of, its order, and what does not change it
+pub use Rattle.xod_block.proofs.MapLemmas.{map_at-step, map_at-agree}
+pub use Rattle.xod_block.proofs.MapOrder.{Joins, children-join, children-not_empty, map_at-rises}
+
+-- what a fetch put out is read as the record that it fetched
+pub Fetched-record_at : (tells : Bool) (stands : Option RecordValue) (old new : List ℕ) (count : ℕ) (f : Fetched tells stands old new count) → record_at (drop (length old) new) ≡ Some (f.value, count)
+Fetched-record_at tells stands old new count f =
+    ap record_at (ap (drop (length old)) f.put ∙ drop_at old (spelling f.value) (length old) refl ∙ sym (append-nil (spelling f.value)))
+    ∙ record_at-spelling f.value [] f.fits
+    ∙ ap (λ (n : ℕ). Some (f.value, n)) (sym f.count_is)
+
+-- What is read of a fetch into an empty list stands at that address, where the fetch tells. `read` and `n` are what decoding answers.
+pub Fetched-stands : (tells : Bool) (stands : Option RecordValue) (old new : List ℕ) (count : ℕ) (read : RecordValue) (n : ℕ) → Fetched tells stands old new count → old ≡ [] → IsTrue tells → record_at new ≡ Some (read, n) → stands ≡ Some read
+Fetched-stands tells stands old new count read n f empty told is =
+    let pair : ℕ → RecordValue → RecordValue × ℕ = λ k v. (v, k) in
+    let whole : record_at (drop (length old) new) ≡ record_at new = ap (λ (l : List ℕ). record_at (drop (length l) new)) empty in
+    let same : pair count f.value ≡ pair n read = some_is (pair count f.value) (pair n read) (sym (Fetched-record_at tells stands old new count f) ∙ whole ∙ is) in
+    f.told told ∙ ap (λ (x : RecordValue × ℕ). Some x.0) same

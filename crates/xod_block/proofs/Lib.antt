@@ -1,0 +1,11 @@
+pub mod AddressLemmas
+pub mod BodyLemmas
+pub mod CallerLemmas
+pub mod Links
+pub mod MapLemmas
+pub mod MapOrder
+pub mod MarkLemmas
+pub mod Numbers
+pub mod Parts
+pub mod Pieces
+pub mod RecordLemmas

@@ -1,0 +1,10 @@
+pub mod Addresses
+pub mod Bodies
+pub mod Bytes
+pub mod Fetches
+pub mod Maps
+pub mod Marks
+pub mod Reading
+pub mod Records
+pub mod Rising
+pub mod Seen
