@@ -1,0 +1,36 @@
+use Rattle.std.proofs.Common.{◌≡◌, ◌++◌, ◌∷◌, [], ℕ, List, length, take, reverse, refl, sym, ◌∙◌, ap, subst, inl, inr, Option, Some, None}
+use Rattle.std.specs.FinMap.{get, insert, remove}
+use Rattle.xod_volume.specs.Files.{Files, Content, bytes_of, bytes_in, size_of, overwritten, with_file}
+use Rattle.xod_volume.specs.Crash.{OnFile, OnBytes, Torn, Shortened, Appears, Vanishes, Passes, IsSame}
+use Rattle.xod_volume.specs.declared.history.Call.{Call}
+use Rattle.xod_volume.specs.declared.history.Deed.TheVariants.{Create, Append, WriteAt, Cut, Sync, Remove, Tear, Nothing}
+use Rattle.xod_volume.specs.Record.{reads, synced, Leaves, By, on_file, files_now, image_at, changed, MayAdd}
+use Rattle.xod_volume.proofs.OneFile.{reads_left, synced_left, Torn-same, Shortened-same, OnBytes-torn, OnBytes-shortened, OnBytes-append, OnBytes-write}
+use Rattle.xod_volume.proofs.AllFiles.{OnFile-same, OnFile-changed, reads_now}
+use Rattle.xod_volume.proofs.Agrees.{with_changed}
+use Rattle.xod_volume.proofs.Steps.{kept, idle_passes, idle_left, step_passes, sync_passes, sync_lasts, step_left, fail_passes, torn_passes, fail_left}
+use Rattle.xod_volume.proofs.memory.MemoryVolumeVolume.remove.Goals as goal
+
+pub returns-then-fails-clause-crash : goal.returns-then-fails-clause-crash
+returns-then-fails-clause-crash c told =
+    fail_passes c.args.self.now.disk.start c.fail.new.self.start c.args.self.now.disk.calls.items c.fail.new.self.calls.items c.fail.ensures.start (record { file = c.args.file; deed = Nothing }) c.fail.ensures.calls refl (OnFile c.args.file Vanishes) (OnFile-same c.args.file Vanishes (λ o. inl refl))
+
+pub returns-then-fails-clause-may_be_kept : goal.returns-then-fails-clause-may_be_kept
+returns-then-fails-clause-may_be_kept c told =
+    kept _ _ _ c.fail.new.self.agrees
+
+pub returns-then-remove-clause-crash : goal.returns-then-remove-clause-crash
+returns-then-remove-clause-crash c told =
+    step_passes c.args.self.now.disk.start c.remove.new.self.start c.args.self.now.disk.calls.items c.remove.new.self.calls.items c.remove.ensures.start (record { file = c.args.file; deed = Remove }) c.if-remove.ensures.calls (Vanishes) (λ o. inl refl) (λ o i. elim i [ inl gone ↦ (reads (get c.args.self.now.disk.start c.args.file) (on_file c.args.file (reverse c.args.self.now.disk.calls.items)), reads_left (get c.args.self.now.disk.start c.args.file) (on_file c.args.file (reverse c.args.self.now.disk.calls.items)), inr gone) | inr back ↦ (synced (get c.args.self.now.disk.start c.args.file) (on_file c.args.file (reverse c.args.self.now.disk.calls.items)), synced_left (get c.args.self.now.disk.start c.args.file) (on_file c.args.file (reverse c.args.self.now.disk.calls.items)), inl back) ])
+
+pub returns-then-remove-clause-may_be_kept : goal.returns-then-remove-clause-may_be_kept
+returns-then-remove-clause-may_be_kept c told =
+    kept _ _ _ c.remove.new.self.agrees
+
+pub returns-else-remove-clause-crash : goal.returns-else-remove-clause-crash
+returns-else-remove-clause-crash c told =
+    idle_passes c.args.self.now.disk.start c.remove.new.self.start c.args.self.now.disk.calls.items c.remove.new.self.calls.items c.remove.ensures.start c.if-remove.ensures.calls (OnFile c.args.file Vanishes) (OnFile-same c.args.file Vanishes (λ o. inl refl))
+
+pub returns-else-remove-clause-may_be_kept : goal.returns-else-remove-clause-may_be_kept
+returns-else-remove-clause-may_be_kept c told =
+    kept _ _ _ c.remove.new.self.agrees
