@@ -1,10 +1,10 @@
 -- The files in memory stay what the record says, over each call.
-use Rattle.std.proofs.Common.{◌≡◌, ◌⊎◌, ℕ, List, [], ◌∷◌, ◌++◌, length, take, Option, Some, None, IsSome, refl, sym, ◌∙◌, ap, subst, inl, inr}
-use Rattle.std.specs.FinMap.{get, insert, remove}
+use Rattle.std.proofs.Common.{◌≡◌, ℕ, List, Some, None, IsSome, refl, sym, ◌∙◌, ap}
+use Rattle.std.specs.FinMap.{get, insert}
 use Rattle.std.proofs.lemmas.Bool.{false≢true}
-use Rattle.xod_volume.specs.Files.{Files, Content, bytes_in, bytes_of, with_file}
+use Rattle.xod_volume.specs.Files.{Files, Content, bytes_in, with_file}
 use Rattle.xod_volume.specs.declared.history.Call.{Call}
-use Rattle.xod_volume.specs.Record.{changed, done, files_now, Adds, MayAdd}
+use Rattle.xod_volume.specs.Record.{changed, done, files_now, Adds}
 use Rattle.xod_volume.proofs.Tables.{with_own}
 use Rattle.xod_volume.proofs.AllFiles.{files_later}
 

@@ -1,15 +1,15 @@
 -- All files: what one call more in the record does to what reads give and to what a crash may leave.
-use Rattle.std.proofs.Common.{◌≡◌, ◌==◌, ◌<◌, ◌≤◌, ◌⊎◌, ℕ, ◌+◌, List, [], ◌∷◌, ◌++◌, length, take, reverse, Option, Some, None, IsSome, refl, sym, ◌∙◌, ap, subst, arith, inl, inr, length-append, cond, Bool}
+use Rattle.std.proofs.Common.{◌≡◌, ◌≤◌, ℕ, ◌+◌, List, [], ◌∷◌, ◌++◌, length, take, reverse, refl, sym, ◌∙◌, ap, subst, arith, inl, inr, length-append, cond, Bool}
 use mathlib.Core.Logic.{◌≢◌}
-use Rattle.std.specs.FinMap.{get, insert, remove}
-use Rattle.std.proofs.lemmas.Bool.{cases_lt, cases_eq, eq-eqb, ne_eqb, false≢true}
+use Rattle.std.specs.FinMap.{get}
+use Rattle.std.proofs.lemmas.Bool.{cases_lt, cases_eq, eq-eqb, ne_eqb}
 use Rattle.std.proofs.lemmas.List.{take-append-le, take_all, reverse-append}
-use Rattle.xod_volume.specs.Files.{Files, Content, bytes_in, bytes_of, with_file}
-use Rattle.xod_volume.specs.Crash.{OnFile, OnBytes, Passes, Rests, IsSame}
+use Rattle.xod_volume.specs.Files.{Files, Content, with_file}
+use Rattle.xod_volume.specs.Crash.{OnFile, Passes, Rests, IsSame}
 use Rattle.xod_volume.specs.declared.history.Call.{Call}
 use Rattle.xod_volume.specs.declared.history.Deed.{Deed}
 use Rattle.xod_volume.specs.declared.history.Deed.TheVariants.{Sync}
-use Rattle.xod_volume.specs.Record.{done, reads, By, Leaves, on_file, files_after, IsImage, files_now, image_at, MayAdd}
+use Rattle.xod_volume.specs.Record.{done, reads, By, Leaves, on_file, files_after, IsImage, files_now, image_at}
 use Rattle.xod_volume.proofs.Tables.{get_same, get_other}
 use Rattle.xod_volume.proofs.OneFile.{reads_left}
 

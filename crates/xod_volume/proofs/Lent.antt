@@ -1,8 +1,8 @@
 -- Which files a lease holds, and what it takes to take one off the list of leases.
-use Rattle.std.proofs.Common.{◌≡◌, ◌==◌, ◌||◌, ◌<◌, ◌≤◌, ◌⊎◌, ℕ, ◌+◌, suc, Bool, true, false, cond, List, [], ◌∷◌, ◌++◌, length, take, drop, get_or, nat_eq, Option, Some, None, refl, sym, ◌∙◌, ap, subst, arith, inl, inr, add-one, append_assoc, append-nil}
+use Rattle.std.proofs.Common.{◌≡◌, ◌==◌, ◌||◌, ◌<◌, ◌≤◌, ℕ, ◌+◌, suc, Bool, true, false, cond, List, [], ◌∷◌, ◌++◌, length, take, drop, get_or, nat_eq, Some, None, refl, sym, ◌∙◌, ap, subst, inl, inr, add-one, append_assoc, append-nil}
 use mathlib.Core.Logic.{◌≢◌}
 use Rattle.std.specs.Ordering.{nat_cmp}
-use Rattle.std.specs.List.{list_any, remove}
+use Rattle.std.specs.List.{remove}
 use Rattle.std.specs.Cmp.Lexicographic.{pointwise}
 use Rattle.std.specs.FinMap.{get, insert, get-retain_keys, get-empty, nat_cmp-IsAntisymmetric}
 use Rattle.std.proofs.lemmas.Bool.{cases_eq, eq-eqb, ne_eqb}
@@ -28,12 +28,12 @@ or_false : (b : Bool) → (b || (false || false)) ≡ b
 or_false true = refl
 or_false false = refl
 
-names_last : (front : List ℕ) (last : ℕ) → names (front ++ last ∷ []) last ≡ true
+pub names_last : (front : List ℕ) (last : ℕ) → names (front ++ last ∷ []) last ≡ true
 names_last front last = list_any-append (λ other. other == last) front (last ∷ [])
     ∙ ap (λ b. names front last || (b || false)) (eq-eqb last last refl)
     ∙ or_true (names front last)
 
-names_before : (front : List ℕ) (last file : ℕ) → file ≢ last → names (front ++ last ∷ []) file ≡ names front file
+pub names_before : (front : List ℕ) (last file : ℕ) → file ≢ last → names (front ++ last ∷ []) file ≡ names front file
 names_before front last file apart = list_any-append (λ other. other == file) front (last ∷ [])
     ∙ ap (λ b. names front file || (b || false)) (ne_eqb last file (λ e. apart (sym e)))
     ∙ or_false (names front file)
@@ -53,7 +53,7 @@ lent_with front last files = same_files _ _ (λ file. elim (cases_eq file last) 
 lent_next : (list : List ℕ) (i : ℕ) (files : Files) → i < length list → with_file (lent_of (take i list) files) (get_or list i 0) (get files (get_or list i 0)) ≡ lent_of (take (i + 1) list) files
 lent_next list i files lt = lent_with (take i list) (get_or list i 0) files ∙ ap (λ (l : List ℕ). lent_of l files) (sym (take_more list i 0 lt))
 
-none_both : (b : Bool) → cond {A = Content} b None None ≡ None
+pub none_both : (b : Bool) → cond {A = Content} b None None ≡ None
 none_both true = refl
 none_both false = refl
 

@@ -4,3 +4,6 @@ pub mod AllFiles
 pub mod Agrees
 pub mod Steps
 pub mod Lent
+pub mod Walked
+pub mod Crashed
+pub mod CallerLemmas

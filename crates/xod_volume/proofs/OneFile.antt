@@ -1,5 +1,5 @@
 -- One file: what reads give, what was synced last, and what is scrambled are among what a crash may leave of it.
-use Rattle.std.proofs.Common.{◌≡◌, ◌<◌, ◌≤◌, ◌⊎◌, ℕ, ◌+◌, ◌-◌, List, [], ◌∷◌, ◌++◌, length, take, drop, max, min, Option, Some, None, refl, sym, ◌∙◌, ap, subst, arith, inl, inr, length-append, append-nil, replicate, cond, Bool}
+use Rattle.std.proofs.Common.{◌≡◌, ◌≤◌, ℕ, ◌+◌, ◌-◌, List, [], ◌∷◌, ◌++◌, length, take, drop, min, Some, None, refl, sym, ◌∙◌, ap, subst, arith, inl, inr, length-append, append-nil, replicate, cond, Bool}
 use Rattle.std.proofs.lemmas.Bool.{cases_lt, lt-ltb, le-ltb}
 use Rattle.std.proofs.lemmas.List.{take-append-le, take_all, drop_all, length-take, length-take-le, length-drop, take-take, drop-append-le, length-replicate}
 use Rattle.xod_volume.specs.Files.{Content, bytes_in, overwritten}
@@ -8,7 +8,7 @@ use Rattle.xod_volume.specs.declared.history.Deed.{Deed}
 use Rattle.xod_volume.specs.declared.history.Deed.TheVariants.{Create, Append, WriteAt, Cut, Sync, Remove, Tear, Nothing}
 use Rattle.xod_volume.specs.declared.fate.Crash.{Crash}
 use Rattle.xod_volume.specs.declared.fate.Crash.TheVariants.{Kept, Lost, Scrambled}
-use Rattle.xod_volume.specs.Record.{changed, done, reads, synced, blotted, scrambled, crashed, By, Leaves}
+use Rattle.xod_volume.specs.Record.{changed, reads, synced, blotted, scrambled, crashed, Leaves}
 
 -- nothing need be torn, and no cut need be made
 pub Torn-same : (at n : ℕ) (bytes : List ℕ) → Torn at n bytes bytes

@@ -1,14 +1,13 @@
 -- What a call leaves of a volume in memory, by what it did to the record: nothing, one call more, or perhaps one that failed.
-use Rattle.std.proofs.Common.{◌≡◌, ◌≤◌, ◌⊎◌, ℕ, List, [], ◌∷◌, ◌++◌, length, reverse, Option, Some, None, refl, sym, ◌∙◌, ap, subst, inl, inr}
+use Rattle.std.proofs.Common.{◌≡◌, ℕ, List, ◌∷◌, length, reverse, sym, ◌∙◌, ap, subst, inl, inr}
 use Rattle.std.specs.FinMap.{get}
 use Rattle.xod_volume.specs.Files.{Files, Content}
 use Rattle.xod_volume.specs.Crash.{OnFile, OnBytes, Torn, Passes, Rests, IsSame}
 use Rattle.xod_volume.specs.declared.history.Call.{Call}
 use Rattle.xod_volume.specs.declared.history.Deed.{Deed}
 use Rattle.xod_volume.specs.declared.history.Deed.TheVariants.{Sync, Tear, Nothing}
-use Rattle.xod_volume.specs.Record.{reads, By, Leaves, on_file, IsImage, files_now, image_at, Adds, MayAdd}
-use Rattle.xod_volume.proofs.Tables.{get_same}
-use Rattle.xod_volume.proofs.OneFile.{reads_left, OnBytes-torn}
+use Rattle.xod_volume.specs.Record.{By, Leaves, on_file, IsImage, files_now, image_at, Adds, MayAdd}
+use Rattle.xod_volume.proofs.OneFile.{OnBytes-torn}
 use Rattle.xod_volume.proofs.AllFiles.{on_same, on_other, rests, idle, now_left, by_step, by_nothing, by_sync, durable, still_left, OnFile-same}
 use Rattle.std.proofs.lemmas.Bool.{cases_eq}
 

@@ -1,5 +1,5 @@
 -- A tree of bodies by number, seen as a finite map: what a look-up, a change and the list of keys mean of the map.
-use Rattle.std.proofs.Common.{◌≡◌, ◌<◌, ◌≤◌, ◌⊎◌, ℕ, ◌+◌, Bool, true, false, cond, List, [], ◌∷◌, ◌++◌, map, length, take, MatchBool, Option, Some, None, IsSome, refl, sym, ◌∙◌, ap, subst, arith, inl, inr}
+use Rattle.std.proofs.Common.{◌≡◌, ◌≤◌, ℕ, ◌+◌, Bool, true, false, cond, List, [], ◌∷◌, ◌++◌, map, length, MatchBool, Some, None, IsSome, refl, sym, ◌∙◌, ap, subst, arith, inl, inr}
 use mathlib.Core.Logic.{◌≢◌}
 use Rattle.std.specs.Ordering.{nat_cmp, is_eq, eq_by_cmp}
 use Rattle.std.specs.Cmp.{nat_cmp_total, nat_cmp_is, eq_by_cmp_equiv}
@@ -8,9 +8,9 @@ use Rattle.std.specs.declared.cmp.Ordering.TheVariants.{Less, Equal, Greater}
 use Rattle.std.specs.Map.{lookup, keys_of}
 use Rattle.std.specs.BTreeMap.{is_at}
 use Rattle.std.specs.List.Sorted.{IsStrictlySortedBy}
-use Rattle.std.specs.FinMap.{FinMap, find, get, insert, remove, keys, entries, entries-insert, len-entries, len-empty, get-from_entries, get-insert, get-remove, same_map, nat_cmp-IsAntisymmetric}
+use Rattle.std.specs.FinMap.{find, get, insert, remove, keys, entries, entries-insert, len, contains_key, len-insert, len-entries, len-empty, get-from_entries, get-insert, get-remove, same_map, nat_cmp-IsAntisymmetric}
 use Rattle.std.specs.FinMap.Entries.{put, by_order}
-use Rattle.std.proofs.lemmas.Bool.{cases_lt, cases_eq, false≢true}
+use Rattle.std.proofs.lemmas.Bool.{cases_lt, cases_eq}
 use Rattle.xod_volume.specs.Files.{Files, Content, no_files, files_from, bytes_in, bytes_of, with_file, overwritten}
 
 -- a look-up in the tree's entries is one in the map
@@ -105,3 +105,19 @@ entries_are (e ∷ es) s =
 
 pub keys_are : (es : List (ℕ × List ℕ)) → IsStrictlySortedBy nat_cmp (keys_of es) → keys (files_from es) ≡ keys_of es
 keys_are es s = ap (map (λ (e : ℕ × List ℕ). e.0)) (entries_are es s)
+
+one_or_none : (there : Bool) (n m : ℕ) → m ≡ cond there n (n + 1) → m ≤ n + 1
+one_or_none true n m e = omega (arith, e)
+one_or_none false n m e = omega (arith, e)
+
+-- how many files there are
+pub count_is : (es : List (ℕ × List ℕ)) → IsStrictlySortedBy nat_cmp (keys_of es) → length es ≡ len (files_from es)
+count_is es s = sym (len-entries (files_from es) ∙ ap length (entries_are es s))
+
+-- a file put in makes one file more at most
+pub count_put : (F : Files) (k : ℕ) (body : List ℕ) → len (insert F k body) ≤ len F + 1
+count_put F k body = one_or_none (contains_key F k) (len F) (len (insert F k body)) (len-insert nat_cmp_total F k body)
+
+-- and none where there was one under its number
+pub count_there : (F : Files) (k : ℕ) (body : List ℕ) → IsSome (get F k) → len (insert F k body) ≡ len F
+count_there F k body there = len-insert nat_cmp_total F k body ∙ ap (λ b. cond b (len F) (len F + 1)) there

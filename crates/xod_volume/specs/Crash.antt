@@ -1,5 +1,5 @@
 -- What one call does to what a crash may leave.
-use Rattle.std.specs.Prelude.{◌≡◌, ◌≤◌, ◌⊎◌, ℕ, ◌+◌, max, List, [], length, take, drop, Option, Some, None}
+use Rattle.std.specs.Prelude.{◌≡◌, ◌≤◌, ◌⊎◌, ℕ, ◌+◌, max, List, [], length, take, drop, Some, None}
 use mathlib.Core.Logic.{◌≢◌}
 use Rattle.std.specs.FinMap.{get}
 use Rattle.xod_volume.specs.Files.{Files, Content}

@@ -1,11 +1,12 @@
 -- What a record of calls says of each file: what reads give, what was synced last, and what a crash may leave.
-use Rattle.std.specs.Prelude.{◌≡◌, ◌==◌, ◌⊎◌, ℕ, ◌+◌, List, [], ◌∷◌, ◌++◌, length, take, drop, replicate, reverse, Option, Some, None, nat_lt, if◌then◌else◌}
-use Rattle.std.specs.FinMap.{get}
+use Rattle.std.specs.Prelude.{◌≡◌, ◌==◌, ◌≤◌, ◌⊎◌, ℕ, ◌+◌, List, [], ◌∷◌, ◌++◌, length, take, drop, replicate, reverse, Some, None, nat_lt, if◌then◌else◌}
+use Rattle.std.specs.FinMap.{get, len}
 use Rattle.xod_volume.specs.Files.{Files, Content, bytes_in, overwritten, with_file}
 use Rattle.xod_volume.specs.Crash.{OnBytes, Torn, Shortened}
 use Rattle.xod_volume.specs.declared.history.Call.{Call}
 use Rattle.xod_volume.specs.declared.history.Deed.{Deed}
 use Rattle.xod_volume.specs.declared.history.Deed.TheVariants.{Create, Append, WriteAt, Cut, Sync, Remove, Tear, Nothing}
+use Rattle.xod_volume.specs.declared.fate.Fate.{Fate}
 use Rattle.xod_volume.specs.declared.fate.Crash.{Crash}
 use Rattle.xod_volume.specs.declared.fate.Crash.TheVariants.{Kept, Lost, Scrambled}
 
@@ -30,39 +31,45 @@ abbrev pub reads : Content → List Deed → Content
 reads start [] = start
 reads start (deed ∷ deeds) = done deed (reads start deeds)
 
+-- The file as it was synced last, after one call more: a sync makes it what reads give, and no other call changes it.
+abbrev pub synced_by : Deed → Content → Content → Content
+synced_by Sync now was = now
+synced_by _ now was = was
+
 -- The file as it was at its last sync, in whichever of its lives.
 abbrev pub synced : Content → List Deed → Content
 synced start [] = start
-synced start (Create ∷ deeds) = synced start deeds
-synced start (Append bytes ∷ deeds) = synced start deeds
-synced start (WriteAt at bytes ∷ deeds) = synced start deeds
-synced start (Cut n ∷ deeds) = synced start deeds
-synced start (Sync ∷ deeds) = reads start deeds
-synced start (Remove ∷ deeds) = synced start deeds
-synced start (Tear at n ∷ deeds) = synced start deeds
-synced start (Nothing ∷ deeds) = synced start deeds
+synced start (deed ∷ deeds) = synced_by deed (reads start deeds) (synced start deeds)
 
 -- n bytes 0xFF over the bytes at a place, past their end too; nothing where the place is past the end
 abbrev pub blotted : ℕ → ℕ → List ℕ → List ℕ
 blotted at n old = if nat_lt (length old) at then old else (take at old ++ replicate n 255 ++ drop (at + n) old)
 
+-- The scrambled file after one call more: where it wrote there is 0xFF, a cut takes nothing off, a sync makes it what
+-- reads give.
+abbrev pub scrambled_by : Deed → Content → Content → Content
+scrambled_by Create now was = Some []
+scrambled_by (Append bytes) now was = changed (blotted (length (bytes_in now)) (length bytes)) was
+scrambled_by (WriteAt at bytes) now was = changed (blotted at (length bytes)) was
+scrambled_by (Tear at n) now was = changed (blotted at n) was
+scrambled_by Sync now was = now
+scrambled_by Remove now was = None
+scrambled_by _ now was = was
+
 -- The file with 0xFF for each byte that was written since its last sync, at the greatest length that it had.
 abbrev pub scrambled : Content → List Deed → Content
 scrambled start [] = start
-scrambled start (Create ∷ deeds) = Some []
-scrambled start (Append bytes ∷ deeds) = changed (blotted (length (bytes_in (reads start deeds))) (length bytes)) (scrambled start deeds)
-scrambled start (WriteAt at bytes ∷ deeds) = changed (blotted at (length bytes)) (scrambled start deeds)
-scrambled start (Cut n ∷ deeds) = scrambled start deeds
-scrambled start (Sync ∷ deeds) = reads start deeds
-scrambled start (Remove ∷ deeds) = None
-scrambled start (Tear at n ∷ deeds) = changed (blotted at n) (scrambled start deeds)
-scrambled start (Nothing ∷ deeds) = scrambled start deeds
+scrambled start (deed ∷ deeds) = scrambled_by deed (reads start deeds) (scrambled start deeds)
 
 -- What a choice of crash gives of a file.
 abbrev pub crashed : Crash → Content → List Deed → Content
 crashed Kept start deeds = reads start deeds
 crashed Lost start deeds = synced start deeds
 crashed Scrambled start deeds = scrambled start deeds
+
+-- What all three choices give of a file.
+abbrev pub fate_of : Content → List Deed → Fate
+fate_of start deeds = record { reads = reads start deeds; synced = synced start deeds; scrambled = scrambled start deeds }
 
 -- What is there comes by a step from one of the things that might have been there.
 abbrev pub By : (Content → Content → Type 0) → (Content → Type 0) → Content → Type 0
@@ -115,3 +122,7 @@ Adds call calls later = later ≡ calls ++ call ∷ []
 -- The record is as it was, or the call has come to it: what a call that failed leaves.
 abbrev pub MayAdd : Call → List Call → List Call → Type 0
 MayAdd call calls later = (later ≡ calls) ⊎ Adds call calls later
+
+-- The record has room for as many further calls as there are files, and for 1024 more.
+abbrev pub HasRoom : Files → ℕ → ℕ → Type 0
+HasRoom files used capacity = used + len files + 1024 ≤ capacity

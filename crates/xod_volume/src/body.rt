@@ -5,7 +5,7 @@ ghost use Rattle.xod_volume.specs.Leases.{Filled};
 
 use std::alloc::Global;
 use std::marker::Model;
-use xod_base::Memory;
+use xod_base::{Bytes, Memory};
 
 /// The bytes of a file.
 #[derive(Drop)]
@@ -32,6 +32,22 @@ impl Body {
         Body {
             bytes: Vec::new(alloc),
         }
+    }
+
+    /// These bytes, copied.
+    pub fn from_bytes(alloc: Global, bytes: &[u8]) -> Result<Self, Memory>
+        ensures { IfOk result (λ body. body ≡ bytes.now) }
+    {
+        Ok(Body {
+            bytes: Vec::from_slice(alloc, bytes)?,
+        })
+    }
+
+    /// The bytes, copied.
+    pub fn copied(&self, alloc: Global) -> Result<Bytes, Memory>
+        ensures { IfOk result (λ bytes. bytes ≡ self.now) }
+    {
+        Ok(Bytes::from_vec(Vec::from_slice(alloc, &self.bytes)?))
     }
 
     /// How many bytes there are.

@@ -8,7 +8,7 @@ ghost use Rattle.std.specs.FinMap.{get, insert, remove};
 ghost use Rattle.xod_volume.specs.declared.history.Deed.{Deed};
 ghost use Rattle.xod_volume.specs.declared.history.Deed.TheVariants.{Create, Append, WriteAt, Cut, Sync, Remove};
 ghost use Rattle.xod_volume.specs.Files.{Content, bytes_of, size_of, overwritten};
-ghost use Rattle.xod_volume.specs.Record.{done, files_now, MayAdd, Adds};
+ghost use Rattle.xod_volume.specs.Record.{done, files_now, MayAdd, Adds, HasRoom};
 
 use crate::body::Body;
 use crate::history::{Call, Deed};
@@ -50,6 +50,24 @@ fn has_room(calls: &Vec<Call>) -> bool
 }
 
 impl Disk {
+    /// Files that no call has touched yet, given twice.
+    pub fn new(alloc: Global, start: FileTable, table: FileTable) -> Result<Self, Memory>
+        requires { table ≡ start }
+        ensures start { IfOk result (λ disk. disk.start ≡ start) }
+        ensures table { IfOk result (λ disk. disk.table ≡ start) }
+        ensures calls { IfOk result (λ disk. disk.calls.items ≡ []) }
+        ensures room { IfOk result (λ disk. HasRoom disk.table (length disk.calls.items)
+            (vec_capacity disk.calls)) }
+    {
+        let mut calls = Vec::new(alloc);
+        make_room(&mut calls, table.count())?;
+        Ok(Disk {
+            start,
+            table,
+            calls,
+        })
+    }
+
     /// The number of calls recorded.
     pub fn moment(&self) -> u64
         ensures { result ≡ length self.now.calls.items }
@@ -62,6 +80,8 @@ impl Disk {
         ensures start { self.new.start ≡ self.old.start }
         ensures table { self.new.table ≡ self.old.table }
         ensures calls { self.new.calls.items ≡ self.old.calls.items }
+        ensures room { OnOk result (HasRoom self.new.table (length self.new.calls.items)
+            (vec_capacity self.new.calls)) }
     {
         make_room(&mut self.calls, self.table.count())
     }
@@ -87,6 +107,8 @@ impl Disk {
             self.old.calls.items self.new.calls.items) }
         ensures table_same { OnErr result (self.new.table ≡ self.old.table) }
         ensures calls_same { OnErr result (self.new.calls.items ≡ self.old.calls.items) }
+        ensures room { OnOk result (HasRoom self.new.table (length self.new.calls.items)
+            (vec_capacity self.new.calls)) }
     {
         make_room(&mut self.calls, self.table.count().saturating_add(1))?;
         self.table.insert(file, Body::new(alloc))?;
@@ -107,6 +129,8 @@ impl Disk {
             self.old.calls.items self.new.calls.items) }
         ensures table_same { OnErr result (self.new.table ≡ self.old.table) }
         ensures calls_same { OnErr result (self.new.calls.items ≡ self.old.calls.items) }
+        ensures room { OnOk result (HasRoom self.new.table (length self.new.calls.items)
+            (vec_capacity self.new.calls)) }
     {
         let kept = Bytes::from_vec(Vec::from_slice(alloc, bytes)?);
         make_room(&mut self.calls, self.table.count())?;
@@ -146,22 +170,24 @@ impl Disk {
     }
 
     /// Cuts a file, where the call finds room.
-    pub fn cut(&mut self, file: u64, length: u64) -> bool
+    pub fn cut(&mut self, file: u64, kept: u64) -> bool
         requires { IsSome (get self.old.table file) }
         ensures start { self.new.start ≡ self.old.start }
         ensures table { MatchBool result (self.new.table
-            ≡ insert self.old.table file (take length (bytes_of self.old.table file)))
+            ≡ insert self.old.table file (take kept (bytes_of self.old.table file)))
             (self.new.table ≡ self.old.table) }
-        ensures calls { MatchBool result (Adds (record { file = file; deed = Cut length })
+        ensures calls { MatchBool result (Adds (record { file = file; deed = Cut kept })
             self.old.calls.items self.new.calls.items) (self.new.calls.items ≡ self.old.calls.items) }
+        ensures refused_only_without_room { length self.old.calls.items < vec_capacity self.old.calls
+            → IsTrue result }
     {
         if !has_room(&self.calls) {
             return false;
         }
-        self.table.cut(file, length);
+        self.table.cut(file, kept);
         self.calls.push_reserved(Call {
             file,
-            deed: Deed::Cut(length),
+            deed: Deed::Cut(kept),
         });
         true
     }
@@ -172,6 +198,8 @@ impl Disk {
         ensures table { self.new.table ≡ self.old.table }
         ensures calls { MatchBool result (Adds (record { file = file; deed = Sync })
             self.old.calls.items self.new.calls.items) (self.new.calls.items ≡ self.old.calls.items) }
+        ensures refused_only_without_room { length self.old.calls.items < vec_capacity self.old.calls
+            → IsTrue result }
     {
         if !has_room(&self.calls) {
             return false;
@@ -190,6 +218,8 @@ impl Disk {
             (self.new.table ≡ self.old.table) }
         ensures calls { MatchBool result (Adds (record { file = file; deed = Remove })
             self.old.calls.items self.new.calls.items) (self.new.calls.items ≡ self.old.calls.items) }
+        ensures refused_only_without_room { length self.old.calls.items < vec_capacity self.old.calls
+            → IsTrue result }
     {
         if !has_room(&self.calls) {
             return false;

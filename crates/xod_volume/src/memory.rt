@@ -10,11 +10,13 @@ ghost use Rattle.xod_volume.specs.Leases.{holds_file, without};
 ghost use Rattle.xod_volume.specs.Record.{image_at, crashed_at};
 
 use crate::disk::Disk;
+use crate::fate::Crash;
 use crate::history::Deed;
 use crate::lease::MemoryLease;
 use crate::plan::Plan;
 use crate::table::FileTable;
 use crate::volume::{Volume, VolumeError};
+use crate::walk::crashed_files;
 use std::alloc::Global;
 use std::sync::Arc;
 use xod_base::{Failed, Listed, Memory};
@@ -23,10 +25,87 @@ use xod_base::{Failed, Listed, Memory};
 #[derive(Drop)]
 pub struct MemoryVolume {
     alloc: Global,
-    disk: Disk,
+    pub(crate) disk: Disk,
     lent: Vec<Listed<u64>>,
     plan: Arc<Plan>,
-    faults: u64,
+    pub(crate) faults: u64,
+}
+
+impl MemoryVolume {
+    /// A volume without files, of which no call is planned to fail. Want of memory is its one refusal.
+    pub fn new(alloc: Global) -> Result<Self, Memory>
+        ensures files { IfOk result (λ volume. ⟦<MemoryVolume as Volume>⟧.files volume ≡ no_files) }
+        ensures only { IfOk result (λ volume. (left : Files)
+            → ⟦<MemoryVolume as Volume>⟧.may_leave volume 0 left → left ≡ no_files) }
+        ensures moment { IfOk result (λ volume. ⟦<MemoryVolume as Volume>⟧.moment volume ≡ 0) }
+        ensures leases { IfOk result (λ volume. ⟦<MemoryVolume as Volume>⟧.leases volume ≡ []) }
+        ensures faults { IfOk result (λ volume. ⟦<MemoryVolume as Volume>⟧.faults volume ≡ 0) }
+    {
+        MemoryVolume::failing(alloc, &[])
+    }
+
+    /// A volume without files, of which these calls fail, counted from 0 over all its calls that can fail and those of
+    /// its leases.
+    pub fn failing(alloc: Global, calls: &[u64]) -> Result<Self, Memory>
+        ensures files { IfOk result (λ volume. ⟦<MemoryVolume as Volume>⟧.files volume ≡ no_files) }
+        ensures only { IfOk result (λ volume. (left : Files)
+            → ⟦<MemoryVolume as Volume>⟧.may_leave volume 0 left → left ≡ no_files) }
+        ensures moment { IfOk result (λ volume. ⟦<MemoryVolume as Volume>⟧.moment volume ≡ 0) }
+        ensures leases { IfOk result (λ volume. ⟦<MemoryVolume as Volume>⟧.leases volume ≡ []) }
+        ensures faults { IfOk result (λ volume. ⟦<MemoryVolume as Volume>⟧.faults volume ≡ 0) }
+    {
+        let plan = Plan::new(Vec::from_slice(alloc, calls)?);
+        Ok(MemoryVolume::on(alloc, FileTable::new(alloc), FileTable::new(alloc), plan)?)
+    }
+
+    /// A volume with these files, given twice, and this plan.
+    fn on(alloc: Global, start: FileTable, table: FileTable, plan: Plan) -> Result<Self, Memory>
+        requires { table ≡ start }
+        ensures files { IfOk result (λ volume. volume.disk.table ≡ start) }
+        ensures start { IfOk result (λ volume. volume.disk.start ≡ start) }
+        ensures calls { IfOk result (λ volume. volume.disk.calls.items ≡ []) }
+        ensures leases { IfOk result (λ volume. volume.lent.items ≡ []) }
+        ensures faults { IfOk result (λ volume. volume.faults ≡ 0) }
+    {
+        let plan = Arc::new(alloc, plan)?;
+        let disk = Disk::new(alloc, start, table)?;
+        Ok(MemoryVolume {
+            alloc,
+            disk,
+            lent: Vec::new(alloc),
+            plan,
+            faults: 0,
+        })
+    }
+
+    /// The present moment: the number of calls recorded.
+    pub fn moment(&self) -> u64
+        ensures { result ≡ ⟦<MemoryVolume as Volume>⟧.moment self.now }
+    {
+        self.disk.moment()
+    }
+
+    /// A volume with what a crash at a moment leaves, by a choice: a new one, of which no call is planned to fail.
+    pub fn crash(&self, moment: u64, choice: Crash) -> Result<Self, Memory>
+        requires has_come { moment ≤ ⟦<MemoryVolume as Volume>⟧.moment self.now }
+        ensures found { IfOk result (λ volume. (file : ℕ)
+            → get (⟦<MemoryVolume as Volume>⟧.files volume) file
+            ≡ crashed_at choice self.now.disk.start self.now.disk.calls.items moment file) }
+        ensures is_image { IfOk result (λ volume.
+            ⟦<MemoryVolume as Volume>⟧.may_leave self.now moment (⟦<MemoryVolume as Volume>⟧.files volume)) }
+        ensures settled { IfOk result (λ volume. (left : Files)
+            → ⟦<MemoryVolume as Volume>⟧.may_leave volume 0 left
+            → left ≡ ⟦<MemoryVolume as Volume>⟧.files volume) }
+        ensures moment { IfOk result (λ volume. ⟦<MemoryVolume as Volume>⟧.moment volume ≡ 0) }
+        ensures leases { IfOk result (λ volume. ⟦<MemoryVolume as Volume>⟧.leases volume ≡ []) }
+        ensures faults { IfOk result (λ volume. ⟦<MemoryVolume as Volume>⟧.faults volume ≡ 0) }
+    {
+        let calls = &self.disk.calls[..moment as usize];
+        let start = crashed_files(self.alloc, &self.disk.start, calls, choice)?;
+        let table = crashed_files(self.alloc, &self.disk.start, calls, choice)?;
+        let plan = Plan::new(Vec::new(self.alloc));
+        Ok(MemoryVolume::on(self.alloc, start, table, plan)?)
+    }
 }
 
 impl Volume for MemoryVolume {

@@ -1,7 +1,7 @@
 //! Files in memory by number, each with its body.
-ghost use Rattle.std.specs.Prelude.{◌≡◌, ◌≤◌, ◌+◌, ◌++◌, length, take, IfOk, MatchBool, IsSome, is_ok, is_some, if◌then◌else◌};
+ghost use Rattle.std.specs.Prelude.{◌≡◌, ◌≤◌, ◌<◌, ◌+◌, ◌^◌, ◌++◌, length, take, IfOk, MatchBool, IsSome, is_ok, is_some, if◌then◌else◌};
 ghost use Rattle.std.specs.Option.{option_copied};
-ghost use Rattle.std.specs.FinMap.{get, insert, remove, keys};
+ghost use Rattle.std.specs.FinMap.{get, insert, remove, keys, len};
 ghost use Rattle.std.specs.Ordering.{nat_cmp};
 ghost use Rattle.std.specs.BTreeMap as tree;
 ghost use Rattle.xod_volume.specs.Files.{no_files, bytes_of, size_of, overwritten};
@@ -11,7 +11,7 @@ use crate::body::Body;
 use std::alloc::{AllocError, Global};
 use std::collections::BTreeMap;
 use std::marker::Model;
-use xod_base::Memory;
+use xod_base::{Bytes, Memory};
 
 /// Files by number.
 #[derive(Drop)]
@@ -42,7 +42,10 @@ impl FileTable {
     }
 
     /// How many files there are.
-    pub fn count(&self) -> usize {
+    pub fn count(&self) -> usize
+        ensures number { result ≡ len self.now }
+        ensures small { result < 2 ^ 63 }
+    {
         self.bodies.len()
     }
 
@@ -51,6 +54,16 @@ impl FileTable {
         ensures { option_copied result ≡ get self.now file }
     {
         self.bodies.get(&file)
+    }
+
+    /// The bytes of a file, copied.
+    pub fn content(&self, alloc: Global, file: u64) -> Result<Option<Bytes>, Memory>
+        ensures { IfOk result (λ content. content ≡ get self.now file) }
+    {
+        match self.body(file) {
+            Some(body) => Ok(Some(body.copied(alloc)?)),
+            None => Ok(None),
+        }
     }
 
     /// How many bytes a file has, 0 where it is absent.

@@ -1,4 +1,4 @@
-use Rattle.std.proofs.Common.{◌≡◌, ◌++◌, ◌<◌, List, length, get_or, refl, subst, sym, ◌∙◌, ap, take, drop, rules, arith, ℕ}
+use Rattle.std.proofs.Common.{◌≡◌, List, get_or, subst, sym, ◌∙◌, ap, arith, ℕ}
 use Rattle.xod_volume.specs.Leases.{without}
 use Rattle.xod_volume.proofs.Lent.{without_here, without_next, without_end}
 use Rattle.xod_volume.proofs.memory.take_off.Goals as goal

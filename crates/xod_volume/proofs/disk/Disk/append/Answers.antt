@@ -1,10 +1,10 @@
-use Rattle.std.proofs.Common.{◌≡◌, ◌++◌, ℕ, List, [], ◌∷◌, take, refl, sym, ◌∙◌, ap, subst, rules, inl, inr, Option, Some, None, IsSome}
-use Rattle.std.specs.FinMap.{get, insert, remove}
-use Rattle.xod_volume.specs.Files.{Files, bytes_of, bytes_in, overwritten}
-use Rattle.xod_volume.specs.declared.history.Deed.TheVariants.{Create, Append, WriteAt, Cut, Sync, Remove}
+use Rattle.std.proofs.Common.{◌≡◌, ◌+◌, ◌++◌, ℕ, List, [], ◌∷◌, ◌∙◌, ap, length, length-append, arith}
+use Rattle.std.specs.FinMap.{get, len}
+use Rattle.xod_volume.specs.Files.{Files}
+use Rattle.xod_volume.specs.declared.history.Deed.TheVariants.{Append}
 use Rattle.xod_volume.specs.declared.history.Call.{Call}
-use Rattle.xod_volume.specs.Record.{done, files_now}
-use Rattle.xod_volume.proofs.Agrees.{with_changed, agrees_same, agrees_done, agrees_idle}
+use Rattle.xod_volume.proofs.Tables.{count_there}
+use Rattle.xod_volume.proofs.Agrees.{with_changed, agrees_same, agrees_done}
 use Rattle.xod_volume.proofs.disk.Disk.append.Goals as goal
 
 pub invariant_of-self : goal.invariant_of-self
@@ -25,3 +25,11 @@ invariant_of-self-2 c =
           ∙ with_changed F c.args.file (λ was. was ++ c.args.bytes.now) (get F c.args.file) c.requires
           ∙ agrees_done _ _ _ _ call c.args.self.now.agrees adds;
     }
+
+pub returns-clause-room : goal.returns-clause-room
+returns-clause-room c =
+    let files : len c.append.new.self ≡ len c.args.self.now.table = ap (λ (F : Files). len F) c.in_ok-append.ensures ∙ count_there c.args.self.now.table c.args.file _ c.requires in
+    let calls : List Call = c.make_room.new.calls.items in
+    let call : Call = record { file = c.args.file; deed = Append c.from_vec-kept.result } in
+    let used : length c.push_reserved.new.self.items ≡ length calls + 1 = ap (λ (l : List Call). length l) c.push_reserved.ensures.items ∙ length-append calls (call ∷ []) in
+    omega (arith, files, used, c.count.ensures.number, c.count.ensures.small, c.in_ok-make_room.ensures.room, c.push_reserved.ensures.capacity)

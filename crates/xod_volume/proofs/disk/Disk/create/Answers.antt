@@ -1,10 +1,10 @@
-use Rattle.std.proofs.Common.{◌≡◌, ◌++◌, ℕ, List, [], ◌∷◌, take, refl, sym, ◌∙◌, ap, subst, rules, inl, inr, Option, Some, None, IsSome}
-use Rattle.std.specs.FinMap.{get, insert, remove}
-use Rattle.xod_volume.specs.Files.{Files, bytes_of, bytes_in, overwritten}
-use Rattle.xod_volume.specs.declared.history.Deed.TheVariants.{Create, Append, WriteAt, Cut, Sync, Remove}
+use Rattle.std.proofs.Common.{◌≡◌, ◌≤◌, ◌+◌, ◌++◌, List, [], ◌∷◌, ◌∙◌, ap, length, length-append, arith}
+use Rattle.std.specs.FinMap.{insert, len}
+use Rattle.xod_volume.specs.Files.{Files}
+use Rattle.xod_volume.specs.declared.history.Deed.TheVariants.{Create}
 use Rattle.xod_volume.specs.declared.history.Call.{Call}
-use Rattle.xod_volume.specs.Record.{done, files_now}
-use Rattle.xod_volume.proofs.Agrees.{with_changed, agrees_same, agrees_done, agrees_idle}
+use Rattle.xod_volume.proofs.Tables.{count_put}
+use Rattle.xod_volume.proofs.Agrees.{agrees_same, agrees_done}
 use Rattle.xod_volume.proofs.disk.Disk.create.Goals as goal
 
 pub invariant_of-self : goal.invariant_of-self
@@ -19,3 +19,12 @@ invariant_of-self-2 c =
       agrees = c.in_ok-insert.ensures ∙ ap (insert c.args.self.now.table c.args.file) c.new.ensures
           ∙ agrees_done _ _ _ _ call c.args.self.now.agrees adds;
     }
+
+pub returns-clause-room : goal.returns-clause-room
+returns-clause-room c =
+    let put : len c.insert.new.self ≡ len (insert c.args.self.now.table c.args.file c.new.result) = ap (λ (F : Files). len F) c.in_ok-insert.ensures in
+    let files : len c.insert.new.self ≤ len c.args.self.now.table + 1 = omega (arith, put, count_put c.args.self.now.table c.args.file c.new.result) in
+    let calls : List Call = c.make_room.new.calls.items in
+    let call : Call = record { file = c.args.file; deed = Create } in
+    let used : length c.push_reserved.new.self.items ≡ length calls + 1 = ap (λ (l : List Call). length l) c.push_reserved.ensures.items ∙ length-append calls (call ∷ []) in
+    omega (arith, files, used, c.count.ensures.number, c.count.ensures.small, c.in_ok-make_room.ensures.room, c.push_reserved.ensures.capacity, c.saturating_add.ensures)

@@ -1,14 +1,9 @@
-use Rattle.std.proofs.Common.{◌≡◌, ◌++◌, ◌∷◌, [], ℕ, List, length, take, reverse, refl, sym, ◌∙◌, ap, subst, inl, inr, Option, Some, None}
-use Rattle.std.specs.FinMap.{get, insert, remove}
-use Rattle.xod_volume.specs.Files.{Files, Content, bytes_of, bytes_in, size_of, overwritten, with_file}
-use Rattle.xod_volume.specs.Crash.{OnFile, OnBytes, Torn, Shortened, Appears, Vanishes, Passes, IsSame}
-use Rattle.xod_volume.specs.declared.history.Call.{Call}
-use Rattle.xod_volume.specs.declared.history.Deed.TheVariants.{Create, Append, WriteAt, Cut, Sync, Remove, Tear, Nothing}
-use Rattle.xod_volume.specs.Record.{reads, synced, Leaves, By, on_file, files_now, image_at, changed, MayAdd}
-use Rattle.xod_volume.proofs.OneFile.{reads_left, synced_left, Torn-same, Shortened-same, OnBytes-torn, OnBytes-shortened, OnBytes-append, OnBytes-write}
-use Rattle.xod_volume.proofs.AllFiles.{OnFile-same, OnFile-changed, reads_now}
-use Rattle.xod_volume.proofs.Agrees.{with_changed}
-use Rattle.xod_volume.proofs.Steps.{kept, idle_passes, idle_left, step_passes, sync_passes, sync_lasts, step_left, fail_passes, torn_passes, fail_left}
+use Rattle.std.proofs.Common.{refl}
+use Rattle.xod_volume.specs.Crash.{OnFile, OnBytes, Shortened}
+use Rattle.xod_volume.specs.declared.history.Deed.TheVariants.{Cut, Nothing}
+use Rattle.xod_volume.proofs.OneFile.{OnBytes-shortened}
+use Rattle.xod_volume.proofs.AllFiles.{OnFile-same}
+use Rattle.xod_volume.proofs.Steps.{kept, idle_passes, step_passes, step_left, fail_passes, fail_left}
 use Rattle.xod_volume.proofs.memory.MemoryVolumeVolume.cut.Goals as goal
 
 pub returns-then-fails-clause-crash : goal.returns-then-fails-clause-crash

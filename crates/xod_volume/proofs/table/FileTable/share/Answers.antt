@@ -1,7 +1,6 @@
-use Rattle.std.proofs.Common.{◌≡◌, ◌++◌, ◌<◌, ℕ, length, get_or, refl, sym, ◌∙◌, ap, take, rules, arith, Option, Some, None}
+use Rattle.std.proofs.Common.{get_or, sym, ◌∙◌, ap, arith}
 use Rattle.std.specs.Option.{option_copied}
-use Rattle.std.specs.FinMap.{get, insert}
-use Rattle.xod_volume.specs.Leases.{lent_of}
+use Rattle.std.specs.FinMap.{insert}
 use Rattle.xod_volume.proofs.Lent.{lent_none, lent_more, lent_skip}
 use Rattle.xod_volume.proofs.table.FileTable.share.Goals as goal
 use Rattle.xod_volume.proofs.table.FileTable.share.Goals.{in-Some+in_ok-share+in_ok-insert, in_default}
