@@ -1,0 +1,9 @@
+pub mod Tables
+pub mod OneFile
+pub mod AllFiles
+pub mod Agrees
+pub mod Steps
+pub mod Lent
+pub mod Walked
+pub mod Crashed
+pub mod CallerLemmas
