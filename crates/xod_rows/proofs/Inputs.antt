@@ -1,5 +1,5 @@
 -- What the worked inputs are as scripts.
-use Rattle.std.proofs.Common.{◌≡◌, ℕ, List, [], ◌∷◌, Some, Result, Ok, Err, codes, refl}
+use Rattle.std.proofs.Common.{◌≡◌, List, [], ◌∷◌, Some, Ok, Err, codes, refl}
 use Rattle.std.specs.Prelude.{pos}
 use lib.Utf8.{encode}
 use Rattle.std.specs.Str.{is_utf8, chars}
@@ -8,7 +8,6 @@ use Rattle.xod_base.specs.declared.query.Query.TheVariants.{Find}
 use Rattle.xod_base.specs.declared.value.Value.TheVariants.{Int}
 use Rattle.xod_shell.specs.declared.lang.script.Ent.TheVariants.{Var}
 use Rattle.xod_shell.specs.declared.lang.script.Form.TheVariants as form
-use Rattle.xod_shell.specs.declared.lang.script.Statement.{Statement}
 use Rattle.xod_shell.specs.declared.lang.script.SessionScript.{SessionScript}
 use Rattle.xod_shell.specs.declared.lang.script.Turned.TheVariants as turned
 use Rattle.xod_shell.specs.declared.lang.script.Item.TheVariants.{Turn}
