@@ -1,3 +1,4 @@
+pub mod Due
 pub mod Inputs
 pub mod OneEntry
 pub mod Played

@@ -8,4 +8,6 @@
 mod tests;
 mod worked;
 
-pub use worked::{a_bad_line_is_told, a_finished_order_is_printed, a_missing_item_is_told};
+pub use worked::{
+    a_bad_line_is_told, a_finished_order_is_printed, a_missing_item_is_told, what_is_due_is_printed,
+};

@@ -1,6 +1,10 @@
 //! The worked inputs, told by the definitions alone: each clause is an equation on the bytes of one input and what is
 //! printed for them. Nothing here runs; a definition that was wrong about one of these inputs would have no proof.
-ghost use Rattle.std.specs.Prelude.{◌≡◌, codes};
+ghost use Rattle.std.specs.Prelude.{◌≡◌, ℕ, List, codes};
+ghost use Rattle.xod_shell.specs.declared.top.ending.Ending.{Ending};
+ghost use Rattle.xod_shell.specs.declared.top.ending.Ending.TheVariants.{NoMemory};
+ghost use Rattle.xod_shell.specs.Endings.{IsAnswered, text_of};
+ghost use Rattle.xod_shell.specs.Grammar.{script_of};
 ghost use Rattle.xod_rows.specs.Worked.{printed_for, whole, with_frob, without_end};
 
 /// One entity with a property, asked for and committed: the answers, the totals and the order.
@@ -16,4 +20,10 @@ pub fn a_missing_item_is_told()
 /// A line that is no statement is told by its number.
 pub fn a_bad_line_is_told()
     ensures { printed_for with_frob ≡ codes "xod: script line 4\n" }
+{}
+
+/// What the top call's contract says of bytes that were read is what is printed for them, unless memory was wanting.
+pub fn what_is_due_is_printed()
+    ensures { (bytes : List ℕ) (ending : Ending) → (ending ≡ NoMemory → ⊥)
+        → IsAnswered (script_of bytes) ending → text_of ending ≡ printed_for bytes }
 {}
