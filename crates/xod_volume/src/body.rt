@@ -78,7 +78,7 @@ impl Body {
         Ok(())
     }
 
-    /// Writes bytes over those from a place on, where nobody shares them.
+    /// Writes bytes over those from a place on.
     pub fn overwrite(&mut self, at: u64, bytes: &[u8]) -> bool
         requires { at + length bytes.now ≤ length self.old }
         ensures { MatchBool result (self.new ≡ overwritten self.old at bytes.now) (self.new ≡ self.old) }
@@ -95,7 +95,7 @@ impl Body {
         self.bytes.truncate(length as usize);
     }
 
-    /// The same bytes once more.
+    /// The same bytes once more, copied.
     pub fn share(&self, alloc: Global) -> Result<Self, Memory>
         ensures { IfOk result (λ body. body ≡ self.now) }
     {

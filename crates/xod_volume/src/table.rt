@@ -86,7 +86,7 @@ impl FileTable {
         }
     }
 
-    /// The files that the list names, as they are.
+    /// The files that the list names, as they are, copied.
     pub fn share(&self, alloc: Global, list: &[u64]) -> Result<Self, Memory>
         ensures { IfOk result (λ shared. shared ≡ lent_of list.now self.now) }
     {
@@ -132,7 +132,7 @@ impl FileTable {
         }
     }
 
-    /// Writes bytes over those of a file from a place on, where nobody shares them.
+    /// Writes bytes over those of a file from a place on.
     pub fn overwrite(&mut self, file: u64, at: u64, bytes: &[u8]) -> bool
         requires exists { IsSome (get self.old file) }
         requires within { at + length bytes.now ≤ size_of self.old file }
