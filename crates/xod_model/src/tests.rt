@@ -6,7 +6,7 @@ ghost use Rattle.xod_model.specs.Changes.{has_names};
 use crate::{Rows, answer_to, plain_eval};
 use std::alloc::Global;
 use std::test::Fail;
-use xod_base::{Act, ActAnswer, EntityId, IdList, Memory, NameKind, Query, StmtError, Text, Value};
+use xod_base::{Act, ActAnswer, EntityId, IdList, Memory, Query, StmtError, Text, Value};
 
 /// The text of bytes that are one.
 fn text(alloc: Global, bytes: &[u8]) -> Result<Text, Memory>
@@ -83,17 +83,6 @@ fn find(
     plain_eval(alloc, &Query::Find { kind, prop, value }, rows)
 }
 
-/// A name of three letters for each number below 17576.
-fn named(n: u16) -> [u8; 3]
-    ensures { IsTrue (has_name_length result) }
-{
-    [
-        b'a' + (n / 676 % 26) as u8,
-        b'a' + (n / 26 % 26) as u8,
-        b'a' + (n % 26) as u8,
-    ]
-}
-
 /// Two users and two tasks, made in turn.
 fn users_and_tasks(alloc: Global) -> Result<Rows, StmtError> {
     let mut rows = Rows::empty(alloc);
@@ -146,52 +135,6 @@ fn a_property_is_found_by_its_folded_text(rt: HostRuntime) -> Result<(), Fail> {
     assert_eq!(rt; found.as_slice(), [id(1, 0), id(1, 1)].as_slice());
     let found = find(rt.alloc(), &rows, b"Task", b"size", Value::Int(3))?;
     assert!(rt; found.is_empty());
-    Ok(())
-}
-
-#[test]
-fn the_type_past_the_limit_is_refused(rt: HostRuntime) -> Result<(), Fail> {
-    let mut rows = Rows::empty(rt.alloc());
-    for n in 0..4096 {
-        make(rt.alloc(), &mut rows, &named(n))?;
-    }
-    let told = make(rt.alloc(), &mut rows, &named(4096));
-    let kind = NameKind::Kinds;
-    assert_eq!(rt; told, Err(StmtError::TooMany { kind, limit: 4096 }));
-    let told = make(rt.alloc(), &mut rows, &named(4095))?;
-    assert_eq!(rt; told, ActAnswer::Made(id(4095, 1)));
-    Ok(())
-}
-
-#[test]
-fn the_property_past_the_limit_is_refused(rt: HostRuntime) -> Result<(), Fail> {
-    let mut rows = users_and_tasks(rt.alloc())?;
-    for n in 0..4096 {
-        set(
-            rt.alloc(),
-            &mut rows,
-            id(0, 0),
-            &named(n),
-            Value::Flag(true),
-        )?;
-    }
-    let told = set(
-        rt.alloc(),
-        &mut rows,
-        id(0, 1),
-        &named(4096),
-        Value::Flag(true),
-    );
-    let kind = NameKind::Props;
-    assert_eq!(rt; told, Err(StmtError::TooMany { kind, limit: 4096 }));
-    let told = set(
-        rt.alloc(),
-        &mut rows,
-        id(0, 1),
-        &named(4095),
-        Value::Flag(true),
-    )?;
-    assert_eq!(rt; told, ActAnswer::Changed);
     Ok(())
 }
 

@@ -6,71 +6,80 @@ use std::test::Fail;
 const NOTHING: &str = "total commit 0 hits 0 misses 0 files 0\norder\n";
 
 #[test]
+fn an_input_without_statements_is_read(rt: HostRuntime) -> Result<(), Fail> {
+    let inputs: [&str; 6] = [
+        "",
+        "order\n",
+        "order",
+        "order\r\n",
+        " \t order \t\n\n# end\r\n",
+        "# a\rb\norder\n",
+    ];
+    for input in inputs {
+        let run = ran(rt.alloc(), input.as_bytes())?;
+        assert_eq!(rt; run.status, 0, "of {input:?}");
+        assert_eq!(rt; run.text.as_slice(), NOTHING.as_bytes(), "of {input:?}");
+    }
+    Ok(())
+}
+
+#[test]
 fn the_first_bad_line_is_told(rt: HostRuntime) -> Result<(), Fail> {
-    let table: [(&str, u8, &str); 30] = [
-        ("", 0, NOTHING),
-        ("order\n", 0, NOTHING),
-        ("order", 0, NOTHING),
-        ("order\r\n", 0, NOTHING),
-        (" \t order \t\n\n# end\r\n", 0, NOTHING),
-        ("# a\rb\norder\n", 0, NOTHING),
-        ("order\r", 3, "xod: script line 1\n"),
-        ("\r", 3, "xod: script line 1\n"),
-        ("\r\r\n", 3, "xod: script line 1\n"),
-        ("order # no\n", 3, "xod: script line 1\n"),
-        ("begin\n", 3, "xod: script line 1\n"),
-        ("session a\nnew T as $x\n", 3, "xod: script line 2\n"),
+    let table: [(&str, &str); 17] = [
+        ("order\r", "xod: script line 1\n"),
+        ("\r", "xod: script line 1\n"),
+        ("\r\r\n", "xod: script line 1\n"),
+        ("order # no\n", "xod: script line 1\n"),
+        ("begin\n", "xod: script line 1\n"),
+        ("session a\nnew T as $x\n", "xod: script line 2\n"),
         (
             "session a\nbegin\nbegin\ncommit\norder\n",
-            3,
             "xod: script line 3\n",
         ),
-        ("session a\nsession b\norder\n", 3, "xod: script line 2\n"),
-        ("order\norder\n", 3, "xod: script line 2\n"),
-        ("order\nsession a\n", 3, "xod: script line 2\n"),
-        ("order\nturn a sync\n", 3, "xod: script line 2\n"),
-        ("order\nturn A begin\n", 3, "xod: script line 2\n"),
-        ("order\nfill all T\n", 3, "xod: script line 2\n"),
-        ("session a\nbegin\n", 3, "xod: script line 3\n"),
-        ("session a\nbegin", 3, "xod: script line 3\n"),
+        ("session a\nsession b\norder\n", "xod: script line 2\n"),
+        ("order\norder\n", "xod: script line 2\n"),
+        ("order\nsession a\n", "xod: script line 2\n"),
+        ("order\nturn a sync\n", "xod: script line 2\n"),
+        ("order\nturn A begin\n", "xod: script line 2\n"),
+        ("order\nfill all T\n", "xod: script line 2\n"),
+        ("session a\nbegin\n", "xod: script line 3\n"),
+        ("session a\nbegin", "xod: script line 3\n"),
         (
             "session a\nbegin\n\n# left open\norder\n",
-            3,
             "xod: script line 5\n",
         ),
-        ("frob\nfrob\n", 3, "xod: script line 1\n"),
-        ("session a\nbegin\nset $x p -0\n", 3, "xod: script line 3\n"),
-        (
-            "session a\nbegin\nset $x p 007\n",
-            3,
-            "xod: script line 3\n",
-        ),
-        ("session a\nbegin\nset $x p +1\n", 3, "xod: script line 3\n"),
-        (
-            "session a\nbegin\nset $x p 9223372036854775808\n",
-            3,
-            "xod: script line 3\n",
-        ),
-        (
-            "session a\nbegin\nset $x p -9223372036854775809\n",
-            3,
-            "xod: script line 3\n",
-        ),
-        (
-            "session a\nbegin\nset $x p \"a\"\n",
-            3,
-            "xod: script line 3\n",
-        ),
-        (
-            "session a\nbegin\nquery find T p true\n",
-            3,
-            "xod: script line 3\n",
-        ),
+        ("frob\nfrob\n", "xod: script line 1\n"),
     ];
-    for (input, status, text) in table {
+    for (input, text) in table {
         let run = ran(rt.alloc(), input.as_bytes())?;
-        assert_eq!(rt; run.status, status, "of {input:?}");
+        assert_eq!(rt; run.status, 3, "of {input:?}");
         assert_eq!(rt; run.text.as_slice(), text.as_bytes(), "of {input:?}");
+    }
+    Ok(())
+}
+
+#[test]
+fn a_bad_value_is_told(rt: HostRuntime) -> Result<(), Fail> {
+    let statements: [&str; 7] = [
+        "set $x p -0",
+        "set $x p 007",
+        "set $x p +1",
+        "set $x p 9223372036854775808",
+        "set $x p -9223372036854775809",
+        "set $x p \"a\"",
+        "query find T p true",
+    ];
+    for statement in statements {
+        let mut input = String::from_str(rt.alloc(), "session a\nbegin\n")?;
+        input.push_str(statement)?;
+        input.push('\n')?;
+        let run = ran(rt.alloc(), input.as_bytes())?;
+        assert_eq!(rt; run.status, 3, "of {statement:?}");
+        assert_eq!(rt;
+            run.text.as_slice(),
+            b"xod: script line 3\n".as_slice(),
+            "of {statement:?}"
+        );
     }
     Ok(())
 }
