@@ -4,6 +4,7 @@ pub mod AllFiles
 pub mod Agrees
 pub mod Steps
 pub mod Lent
+pub mod Joined
 pub mod Walked
 pub mod Crashed
 pub mod CallerLemmas

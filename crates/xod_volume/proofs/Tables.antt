@@ -69,6 +69,10 @@ with_own F g o is = same_files (with_file F g o) F (λ q. elim (cases_eq q g) [
   | inr not ↦ get_other F g q o not
 ])
 
+-- a file put in again as it was
+pub same_put : (F : Files) (k : ℕ) (was is : List ℕ) → get F k ≡ Some was → is ≡ was → insert F k is ≡ F
+same_put F k was is there e = ap (insert F k) e ∙ with_own F k (Some was) there
+
 -- a file that was appended to, or that a refusal left as it was
 pub append_put : (ok : Bool) (F : Files) (k : ℕ) (was more is : List ℕ) → get F k ≡ Some was → is ≡ cond ok (was ++ more) was
     → insert F k is ≡ cond ok (insert F k (bytes_of F k ++ more)) F

@@ -2,3 +2,4 @@ pub mod Files
 pub mod Crash
 pub mod Leases
 pub mod Record
+pub mod Places

@@ -142,7 +142,8 @@ impl Disk {
         Ok(())
     }
 
-    /// Writes bytes over those of a file, where the call finds room, and memory for what it records.
+    /// Writes bytes over those of a file, where the call finds room, and memory for what it records, and no lease has
+    /// some of those bytes.
     pub fn write_at(&mut self, alloc: Global, file: u64, at: u64, bytes: &[u8]) -> bool
         requires exists { IsSome (get self.old.table file) }
         requires within { at + length bytes.now ≤ size_of self.old.table file }

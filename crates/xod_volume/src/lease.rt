@@ -1,7 +1,8 @@
 //! A lease of files in memory.
 //!
-//! It has a copy of the bodies that were lent, so it is read while the volume is used elsewhere, and without a lock. It
-//! counts its reads and its own faults; `take_back` adds those to the volume's.
+//! It has the pieces of the bodies that were lent, as the volume has, and nobody writes to a piece that two have: so it
+//! is read while the volume is used elsewhere, and without a lock. It counts its reads and its own faults; `take_back`
+//! adds those to the volume's.
 ghost use Rattle.std.specs.Prelude.{[], true};
 
 use crate::plan::Plan;

@@ -9,6 +9,8 @@ mod laws;
 mod lease;
 mod memory;
 mod patch;
+mod piece;
+mod pieces;
 mod plan;
 mod table;
 #[cfg(test)]

@@ -2,7 +2,8 @@
 //!
 //! Tests and the program's own memory runs use it. It tells what it holds. Its moment is the number of calls recorded,
 //! and its images are read off that record (`specs/Record.antt`): the record is data that a test can look at, through
-//! `crash`. It fails where its plan says so, and where a call finds no room in the record.
+//! `crash`. It fails where its plan says so, where a call finds no room in the record, and where a `write_at` would
+//! change bytes that a lease has: such a call changes nothing and is not recorded.
 ghost use Rattle.std.specs.Prelude.{◌≡◌, ◌≤◌, ◌∷◌, ℕ, [], true, IfOk, is_ok, if◌then◌else◌, length};
 ghost use Rattle.std.specs.FinMap.{get};
 ghost use Rattle.xod_volume.specs.Files.{Files, no_files};

@@ -86,17 +86,29 @@ impl FileTable {
         }
     }
 
-    /// The files that the list names, as they are, copied.
-    pub fn share(&self, alloc: Global, list: &[u64]) -> Result<Self, Memory>
-        ensures { IfOk result (λ shared. shared ≡ lent_of list.now self.now) }
+    /// The files that the list names, as they are. No byte is copied.
+    pub fn share(&mut self, alloc: Global, list: &[u64]) -> Result<Self, Memory>
+        ensures same { self.new ≡ self.old }
+        ensures shared { IfOk result (λ shared. shared ≡ lent_of list.now self.old) }
     {
         let mut shared = FileTable::new(alloc);
         for file in list {
-            if let Some(body) = self.body(*file) {
-                shared.insert(*file, body.share(alloc)?)?;
+            if let Some(body) = self.share_body(alloc, *file)? {
+                shared.insert(*file, body)?;
             }
         }
         Ok(shared)
+    }
+
+    /// The body of a file once more. No byte is copied.
+    fn share_body(&mut self, alloc: Global, file: u64) -> Result<Option<Body>, Memory>
+        ensures same { self.new ≡ self.old }
+        ensures shared { IfOk result (λ body. body ≡ get self.old file) }
+    {
+        let Some(body) = self.bodies.get_mut(&file) else {
+            return Ok(None);
+        };
+        Ok(Some(body.share(alloc)?))
     }
 
     /// The numbers of the files, in rising order.
@@ -132,7 +144,7 @@ impl FileTable {
         }
     }
 
-    /// Writes bytes over those of a file from a place on.
+    /// Writes bytes over those of a file from a place on. Where a lease has some of those, nothing is changed.
     pub fn overwrite(&mut self, file: u64, at: u64, bytes: &[u8]) -> bool
         requires exists { IsSome (get self.old file) }
         requires within { at + length bytes.now ≤ size_of self.old file }

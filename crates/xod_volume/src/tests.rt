@@ -64,16 +64,20 @@ fn lend(volume: &mut MemoryVolume, file: u64) -> Result<MemoryLease, VolumeError
     volume.lend(&[file])
 }
 
-/// The first bytes of a file, read through the volume.
-fn first_four(volume: &mut MemoryVolume, file: u64) -> ([u8; 4], usize) {
+/// Four bytes of a file from a place on, read through the volume.
+fn four_from(volume: &mut MemoryVolume, file: u64, at: u64) -> ([u8; 4], usize) {
     let mut out = [0; 4];
     if volume.disk.table.body(file).is_none() {
         return (out, 9);
     }
-    let Ok(n) = volume.read(file, 0, &mut out) else {
+    let Ok(n) = volume.read(file, at, &mut out) else {
         return (out, 8);
     };
     (out, n)
+}
+
+fn first_four(volume: &mut MemoryVolume, file: u64) -> ([u8; 4], usize) {
+    four_from(volume, file, 0)
 }
 
 fn take(volume: &mut MemoryVolume, step: &Step) -> bool {
@@ -123,6 +127,62 @@ fn a_lease_keeps_its_bytes_while_the_file_grows(rt: HostRuntime) -> Result<(), F
     assert_eq!(rt; out, [97, 98, 0, 0]);
     assert_eq!(rt; other, Ok(0));
     assert_eq!(rt; first_four(&mut volume, 1), ([97, 98, 99, 100], 4));
+    Ok(())
+}
+
+#[test]
+fn a_lease_keeps_its_bytes_while_its_file_is_cut(rt: HostRuntime) -> Result<(), Fail> {
+    let mut volume = MemoryVolume::new(rt.alloc())?;
+    assert!(rt; take(&mut volume, &Step::Create(1)));
+    assert!(rt; take(&mut volume, &Step::Append(1, b"ab")));
+    let early = lend(&mut volume, 1)?;
+    volume.take_back(early);
+    assert!(rt; take(&mut volume, &Step::Append(1, b"cd")));
+    let mut lease = lend(&mut volume, 1)?;
+    assert!(rt; take(&mut volume, &Step::Append(1, b"ef")));
+    assert!(rt; take(&mut volume, &Step::Cut(1, 3)));
+    assert!(rt; take(&mut volume, &Step::Append(1, b"xy")));
+    let mut out = [0; 4];
+    let lent = lease.read(1, 1, &mut out);
+    volume.take_back(lease);
+    assert_eq!(rt; lent, Ok(3));
+    assert_eq!(rt; out, [98, 99, 100, 0]);
+    assert_eq!(rt; first_four(&mut volume, 1), ([97, 98, 99, 120], 4));
+    assert_eq!(rt; four_from(&mut volume, 1, 3), ([120, 121, 0, 0], 2));
+    assert!(rt; take(&mut volume, &Step::Cut(1, 2)));
+    assert_eq!(rt; first_four(&mut volume, 1), ([97, 98, 0, 0], 2));
+    Ok(())
+}
+
+#[test]
+fn a_write_into_bytes_that_a_lease_has_fails(rt: HostRuntime) -> Result<(), Fail> {
+    let mut volume = MemoryVolume::new(rt.alloc())?;
+    assert!(rt; take(&mut volume, &Step::Create(1)));
+    assert!(rt; take(&mut volume, &Step::Append(1, b"ab")));
+    let mut lease = lend(&mut volume, 1)?;
+    assert!(rt; take(&mut volume, &Step::Append(1, b"cd")));
+    match lend(&mut volume, 1) {
+        Ok(longer) => volume.take_back(longer),
+        Err(_) => assert!(rt; false),
+    }
+    assert!(rt; take(&mut volume, &Step::Append(1, b"ef")));
+    assert!(rt; !take(&mut volume, &Step::WriteAt(1, 1, b"VWXYZ")));
+    assert_eq!(rt; volume.moment(), 4);
+    assert_eq!(rt; volume.faults, 1);
+    assert_eq!(rt; first_four(&mut volume, 1), ([97, 98, 99, 100], 4));
+    assert_eq!(rt; four_from(&mut volume, 1, 4), ([101, 102, 0, 0], 2));
+    assert!(rt; take(&mut volume, &Step::WriteAt(1, 2, b"CDE")));
+    let mut out = [0; 4];
+    let lent = lease.read(1, 0, &mut out);
+    volume.take_back(lease);
+    assert_eq!(rt; lent, Ok(2));
+    assert_eq!(rt; out, [97, 98, 0, 0]);
+    assert_eq!(rt; first_four(&mut volume, 1), ([97, 98, 67, 68], 4));
+    assert!(rt; take(&mut volume, &Step::WriteAt(1, 1, b"VWXYZ")));
+    assert_eq!(rt; volume.moment(), 6);
+    assert_eq!(rt; volume.faults, 1);
+    assert_eq!(rt; first_four(&mut volume, 1), ([97, 86, 87, 88], 4));
+    assert_eq!(rt; four_from(&mut volume, 1, 4), ([89, 90, 0, 0], 2));
     Ok(())
 }
 
