@@ -1,0 +1,11 @@
+pub mod Runs
+pub mod Bytes
+pub mod Claims
+pub mod Marking
+pub mod SealRuns
+pub mod Changed
+pub mod Appending
+pub mod Synced
+pub mod Pairs
+pub mod Rolling
+pub mod CallerLemmas

@@ -1,0 +1,285 @@
+-- A roll, call by call, and the block that comes behind it: what a crash may leave after each call, and which log stands.
+use Rattle.std.proofs.Common.{◌≡◌, ◌<◌, ◌⊎◌, ℕ, ◌+◌, ◌*◌, List, [], ◌++◌, length, take, Some, IsSome, Bool, true, false, MatchBool, if◌then◌else◌, refl, sym, ◌∙◌, ap, subst, arith, inl, inr}
+use mathlib.Core.Logic.{◌≢◌}
+use Rattle.std.specs.FinMap.{get, insert}
+use Rattle.xod_volume.specs.Files.{Files, Content, bytes_in, bytes_of}
+use Rattle.xod_volume.specs.Crash.{OnFile, OnBytes, Torn, Passes, LeftSince}
+use Rattle.xod_volume.proofs.CallerLemmas.{get_same, get_other}
+use Rattle.xod_log.specs.declared.log.Log.{Log}
+use Rattle.xod_log.specs.Ends.{gate_at, numbers_at, numbers, IsOpen, IsUsed, HasSealed, body_of, ends_of}
+use Rattle.xod_log.specs.Standing.{AtRest, LeftStanding, LastSays, Stands, body_file, ends_file, sealed_log, rolled_log, is_due}
+use Rattle.xod_log.specs.Calls.{IsElsewhere, IsRolled, MakesPair, IsClosed, IsMarked, Seals, Rolls, Appends, OpensOnly, HasMark}
+use Rattle.xod_log.proofs.Runs.{weakened, joined}
+use Rattle.xod_log.proofs.Claims.{same_bytes, appended_sealed, pair_opens, pair_sealed}
+use Rattle.xod_log.proofs.Marking.{has_bytes}
+
+-- ---- files of the pairs
+
+-- a file elsewhere is none of the four
+pub elsewhere : (log : Log) (other : ℕ) → IsElsewhere log other → (other ≢ body_file log) × (other ≢ ends_file log) × (other ≢ body_of (log.file + 1)) × (other ≢ ends_of (log.file + 1))
+elsewhere log other (inl lt) = (λ e. omega (arith, lt, e), λ e. omega (arith, lt, e), λ e. omega (arith, lt, e), λ e. omega (arith, lt, e))
+elsewhere log other (inr le) = (λ e. omega (arith, le, e), λ e. omega (arith, le, e), λ e. omega (arith, le, e), λ e. omega (arith, le, e))
+
+-- the pair of the next file is another one
+pub next_apart : (file : ℕ) → (body_of file ≢ body_of (file + 1)) × (body_of file ≢ ends_of (file + 1)) × (ends_of file ≢ body_of (file + 1)) × (ends_of file ≢ ends_of (file + 1))
+next_apart file = (λ e. omega (arith, e), λ e. omega (arith, e), λ e. omega (arith, e), λ e. omega (arith, e))
+
+pub used_over : (file : ℕ) (was left : Files) → get left (body_of file) ≡ get was (body_of file) → get left (ends_of file) ≡ get was (ends_of file) → IsUsed file left → IsUsed file was
+used_over file was left body ends used = record {
+  has_body = subst (λ (c : Content). IsSome c) body used.has_body;
+  has_ends = subst (λ (c : Content). IsSome c) ends used.has_ends;
+  opened = subst (λ (c : Content). IsOpen (bytes_in c) 0) ends used.opened;
+}
+
+-- ends with one mark have no open one
+pub short_unused : (file : ℕ) (left : Files) → length (bytes_of left (ends_of file)) ≡ 13 → ¬ (IsUsed file left)
+short_unused file left size used = omega (arith, size, used.opened.followed)
+
+-- ---- what a roll may leave
+
+module _ (log : Log) (B E : List ℕ) where
+  abbrev m : ℕ
+  m = log.marks
+
+  pub start_rolls : (was : Files) → LeftStanding log E was → Rolls log B E was was
+  start_rolls was stood = record {
+    others = λ other apart. refl;
+    next = λ unused. unused;
+    pair = inl (record {
+      body = refl;
+      has_ends = stood.has_ends;
+      long = omega (arith, stood.at_rest.size);
+      no_longer = omega (arith, stood.at_rest.size);
+      front = refl;
+      gate = stood.at_rest.gate;
+    });
+  }
+
+  pub sealing_rolls : (was left : Files) → Seals log B E was left → Rolls log B E was left
+  sealing_rolls was left s = record {
+    others = λ other apart. s.others other (elsewhere log other apart).1;
+    next = λ unused used. unused (used_over (log.file + 1) was left
+        (s.others (body_of (log.file + 1)) (λ e. omega (arith, e)))
+        (s.others (ends_of (log.file + 1)) (λ e. omega (arith, e))) used);
+    pair = s.pair;
+  }
+
+  -- what is said of the current pair goes over to files that have the same pair
+  closed_over : (was mid left : Files) → get left (body_file log) ≡ get mid (body_file log) → get left (ends_file log) ≡ get mid (ends_file log) → IsClosed log was mid → IsClosed log was left
+  closed_over was mid left body ends c =
+      let bytes : bytes_of left (ends_file log) ≡ bytes_of mid (ends_file log) = same_bytes left mid (ends_file log) ends in
+      record {
+        body = body ∙ c.body;
+        has_ends = (has_bytes left (ends_file log) (bytes_of mid (ends_file log)) (ends ∙ c.has_ends)).0;
+        long = omega (arith, ap length bytes, c.long);
+        no_longer = omega (arith, ap length bytes, c.no_longer);
+        front = ap (take (13 * m)) bytes ∙ c.front;
+        gate = ap (λ (l : List ℕ). gate_at l m) bytes ∙ c.gate;
+      }
+
+  marked_over : (mid left : Files) → get left (body_file log) ≡ get mid (body_file log) → get left (ends_file log) ≡ get mid (ends_file log) → IsMarked log B E mid → IsMarked log B E left
+  marked_over mid left body ends c =
+      let bytes : bytes_of left (ends_file log) ≡ bytes_of mid (ends_file log) = same_bytes left mid (ends_file log) ends in
+      record {
+        unsealed = c.unsealed;
+        whole = body ∙ c.whole;
+        has_ends = (has_bytes left (ends_file log) (bytes_of mid (ends_file log)) (ends ∙ c.has_ends)).0;
+        size = ap length bytes ∙ c.size;
+        front = ap (take (13 * m)) bytes ∙ c.front;
+        says = ap (λ (l : List ℕ). numbers_at l m) bytes ∙ c.says;
+        next_gate = ap (λ (l : List ℕ). gate_at l (m + 1)) bytes ∙ c.next_gate;
+      }
+
+  pair_over : (was mid left : Files) → get left (body_file log) ≡ get mid (body_file log) → get left (ends_file log) ≡ get mid (ends_file log) → IsClosed log was mid ⊎ IsMarked log B E mid → IsClosed log was left ⊎ IsMarked log B E left
+  pair_over was mid left body ends (inl c) = inl (closed_over was mid left body ends c)
+  pair_over was mid left body ends (inr c) = inr (marked_over mid left body ends c)
+
+  pub making_rolls : (was mid left : Files) → Rolls log B E was mid → MakesPair (log.file + 1) mid left → Rolls log B E was left
+  making_rolls was mid left r made =
+      let apart = next_apart log.file in
+      record {
+        others = λ other away. let four = elsewhere log other away in made.others other four.2 four.3 ∙ r.others other away;
+        next = λ unused. made.unused (r.next unused);
+        pair = pair_over was mid left (made.others (body_file log) apart.0 apart.1) (made.others (ends_file log) apart.2 apart.3) r.pair;
+      }
+
+  -- a block at the front of the next file
+  pub block_rolls : (step : Content → Content → Type 0) (was mid left : Files) → Rolls log B E was mid → length (bytes_of mid (ends_of (log.file + 1))) ≡ 13
+      → OnFile (body_of (log.file + 1)) step mid left → Rolls log B E was left
+  block_rolls step was mid left r size on =
+      let apart = next_apart log.file in
+      let ends : get left (ends_of (log.file + 1)) ≡ get mid (ends_of (log.file + 1)) = on.others (ends_of (log.file + 1)) (λ e. omega (arith, e)) in
+      record {
+        others = λ other away. on.others other (elsewhere log other away).2 ∙ r.others other away;
+        next = λ unused. short_unused (log.file + 1) left (ap length (same_bytes left mid (ends_of (log.file + 1)) ends) ∙ size);
+        pair = pair_over was mid left (on.others (body_file log) apart.0) (on.others (ends_file log) apart.2) r.pair;
+      }
+
+  -- ---- by whether a roll is due
+
+  pub due_appends : (count : ℕ) → is_due log ≡ true → (was left : Files) → Rolls log B E was left → Appends log count B E was left
+  due_appends count due was left r = subst (λ (b : Bool). MatchBool b (Rolls log B E was left) (OnFile (body_file log) (OnBytes (Torn log.end count)) was left)) (sym due) r
+
+  pub not_due_appends : (count : ℕ) → is_due log ≡ false → (was left : Files) → OnFile (body_file log) (OnBytes (Torn log.end count)) was left → Appends log count B E was left
+  not_due_appends count due was left on = subst (λ (b : Bool). MatchBool b (Rolls log B E was left) (OnFile (body_file log) (OnBytes (Torn log.end count)) was left)) (sym due) on
+
+-- ---- the calls together
+
+module _ (log : Log) (B E : List ℕ) (t0 t1 t2 : ℕ) (i0 i1 i2 : ℕ → Files → Type 0) where
+  -- a seal alone
+  pub seal_rolls : Passes t0 t1 i0 i1 (Seals log B E) → Passes t0 t1 i0 i1 (Rolls log B E)
+  seal_rolls sealing = weakened t0 t1 i0 i1 (Seals log B E) (Rolls log B E) sealing (λ was left began. sealing_rolls log B E was left)
+
+  -- a seal, and the next pair
+  pub pair_rolls : Passes t0 t1 i0 i1 (Seals log B E) → Passes t1 t2 i1 i2 (MakesPair (log.file + 1)) → Passes t0 t2 i0 i2 (Rolls log B E)
+  pair_rolls sealing making = joined t0 t1 t2 i0 i1 i2 (Rolls log B E) (MakesPair (log.file + 1)) (seal_rolls sealing) making
+      (λ was mid left began at r made. making_rolls log B E was mid left r made)
+
+  -- a roll, and a block
+  pub block_rolled : (files : Files) (step : Content → Content → Type 0) → Stands (rolled_log log) files (i1 t1)
+      → Passes t0 t1 i0 i1 (Rolls log B E) → Passes t1 t2 i1 i2 (OnFile (body_of (log.file + 1)) step) → Passes t0 t2 i0 i2 (Rolls log B E)
+  block_rolled files step stands rolling appending = joined t0 t1 t2 i0 i1 i2 (Rolls log B E) (OnFile (body_of (log.file + 1)) step) rolling appending
+      (λ was mid left began at r on. block_rolls log B E step was mid left r ((stands.each mid at).at_rest.size) on)
+
+-- ---- what is claimed of the files that may be left
+
+module _ (log : Log) (files : Files) (t0 t1 : ℕ) (i0 i1 : ℕ → Files → Type 0) (stands : Stands log files (i0 t0)) where
+  abbrev B : List ℕ
+  B = bytes_of files (body_file log)
+
+  abbrev E : List ℕ
+  E = bytes_of files (ends_file log)
+
+  pub roll_opens : Passes t0 t1 i0 i1 (Rolls log B E) → (left : Files) → LeftSince t0 t1 i1 left → OpensOnly log E left
+  roll_opens passes left since =
+      let from = passes.each since.0 left since.1 since.2 since.3 in
+      pair_opens log B E from.0 (stands.each from.0 from.1) left from.2.pair
+
+  pub roll_seals : Passes t0 t1 i0 i1 (Rolls log B E) → ((left : Files) → i0 t0 left → HasSealed log.file B left)
+      → (left : Files) → LeftSince t0 t1 i1 left → HasSealed log.file B left
+  roll_seals passes sealed left since =
+      let from = passes.each since.0 left since.1 since.2 since.3 in
+      pair_sealed log B E from.0 (stands.each from.0 from.1) left stands.size (sealed from.0 from.1) from.2.pair
+
+  pub append_seals : (count : ℕ) → Passes t0 t1 i0 i1 (OnFile (body_file log) (OnBytes (Torn log.end count))) → ((left : Files) → i0 t0 left → HasSealed log.file B left)
+      → (left : Files) → LeftSince t0 t1 i1 left → HasSealed log.file B left
+  append_seals count passes sealed left since =
+      let from = passes.each since.0 left since.1 since.2 since.3 in
+      appended_sealed log B E from.0 (stands.each from.0 from.1) count left stands.size (sealed from.0 from.1) from.2
+
+-- ---- which log stands
+
+-- what is done to other files than the pair leaves a log standing
+pub stands_beside : (log : Log) (before after : Files) (past images : Files → Type 0)
+    → get after (body_file log) ≡ get before (body_file log) → get after (ends_file log) ≡ get before (ends_file log)
+    → ((left : Files) → images left → (was : Files) × past was × (get left (body_file log) ≡ get was (body_file log)) × (get left (ends_file log) ≡ get was (ends_file log)))
+    → Stands log before past → Stands log after images
+stands_beside log before after past images body ends from s =
+    let body_bytes : bytes_of after (body_file log) ≡ bytes_of before (body_file log) = same_bytes after before (body_file log) body in
+    let ends_bytes : bytes_of after (ends_file log) ≡ bytes_of before (ends_file log) = same_bytes after before (ends_file log) ends in
+    record {
+      has_body = (has_bytes after (body_file log) (bytes_of before (body_file log)) (body ∙ s.has_body)).0;
+      has_ends = (has_bytes after (ends_file log) (bytes_of before (ends_file log)) (ends ∙ s.has_ends)).0;
+      size = ap length body_bytes ∙ s.size;
+      opened = subst (λ (l : List ℕ). (mark : ℕ) → mark < log.marks → gate_at l mark ≢ 0) (sym ends_bytes) s.opened;
+      at_rest = subst (λ (l : List ℕ). AtRest log.marks l l) (sym ends_bytes) s.at_rest;
+      each = λ left im.
+          let was = from left im in
+          let stood : LeftStanding log (bytes_of before (ends_file log)) was.0 = s.each was.0 was.1 in
+          let left_bytes : bytes_of left (ends_file log) ≡ bytes_of was.0 (ends_file log) = same_bytes left was.0 (ends_file log) was.3 in
+          record {
+            has_body = (has_bytes left (body_file log) (bytes_of was.0 (body_file log)) (was.2 ∙ stood.has_body)).0;
+            has_ends = (has_bytes left (ends_file log) (bytes_of was.0 (ends_file log)) (was.3 ∙ stood.has_ends)).0;
+            at_rest = record {
+              size = ap length left_bytes ∙ stood.at_rest.size;
+              front = ap (take (13 * log.marks)) left_bytes ∙ stood.at_rest.front ∙ ap (take (13 * log.marks)) (sym ends_bytes);
+              gate = ap (λ (l : List ℕ). gate_at l log.marks) left_bytes ∙ stood.at_rest.gate;
+            };
+          };
+      settled = λ is_sealed left im. let was = from left im in was.2 ∙ s.settled is_sealed was.0 was.1 ∙ sym body;
+      last = λ is_sealed. subst (λ (l : List ℕ). LastSays log.marks log.end log.back l) (sym ends_bytes) (s.last is_sealed);
+    }
+
+-- a call that leaves the pair leaves the log standing
+pub stands_on : (log : Log) (t1 t2 : ℕ) (i1 i2 : ℕ → Files → Type 0) (before after : Files) (S : Files → Files → Type 0) → Passes t1 t2 i1 i2 S
+    → get after (body_file log) ≡ get before (body_file log) → get after (ends_file log) ≡ get before (ends_file log)
+    → ((mid left : Files) → S mid left → (get left (body_file log) ≡ get mid (body_file log)) × (get left (ends_file log) ≡ get mid (ends_file log)))
+    → Stands log before (i1 t1) → Stands log after (i2 t2)
+stands_on log t1 t2 i1 i2 before after S passes body ends keeps s = stands_beside log before after (i1 t1) (i2 t2) body ends (λ left im.
+    let from = passes.each t2 left passes.later (omega arith) im in
+    let same = keeps from.0 left from.2 in
+    (from.0, from.1, same.0, same.1)) s
+
+same_place : (b : Bool) (x y : Log) → y.file ≡ x.file → (if b then x else y).file ≡ x.file
+same_place true x y is = refl
+same_place false x y is = is
+
+pub sealed_file : (log : Log) → (sealed_log log).file ≡ log.file
+sealed_file log = same_place log.is_sealed log (record log { marks = log.marks + 1; is_sealed = true }) refl
+
+-- the sealed log stands beside the next pair while that is made, and while a block comes to it
+module _ (log now : Log) (is : now ≡ sealed_log log) (t1 t2 : ℕ) (i1 i2 : ℕ → Files → Type 0) (before after : Files) where
+  same_file : now.file ≡ log.file
+  same_file = ap (λ (l : Log). l.file) is ∙ sealed_file log
+
+  pub making_stands : ((other : ℕ) → other ≢ body_of (log.file + 1) → other ≢ ends_of (log.file + 1) → get after other ≡ get before other)
+      → Passes t1 t2 i1 i2 (MakesPair (log.file + 1)) → Stands now before (i1 t1) → Stands now after (i2 t2)
+  making_stands others passes =
+      let file = same_file in
+      stands_on now t1 t2 i1 i2 before after (MakesPair (log.file + 1)) passes
+      (others (body_file now) (λ e. omega (arith, file, e)) (λ e. omega (arith, file, e)))
+      (others (ends_file now) (λ e. omega (arith, file, e)) (λ e. omega (arith, file, e)))
+      (λ mid left made. (
+        made.others (body_file now) (λ e. omega (arith, file, e)) (λ e. omega (arith, file, e)),
+        made.others (ends_file now) (λ e. omega (arith, file, e)) (λ e. omega (arith, file, e)),
+      ))
+
+  pub block_stands : (step : Content → Content → Type 0) → ((other : ℕ) → other ≢ body_of (log.file + 1) → get after other ≡ get before other)
+      → Passes t1 t2 i1 i2 (OnFile (body_of (log.file + 1)) step) → Stands now before (i1 t1) → Stands now after (i2 t2)
+  block_stands step others passes =
+      let file = same_file in
+      stands_on now t1 t2 i1 i2 before after (OnFile (body_of (log.file + 1)) step) passes
+      (others (body_file now) (λ e. omega (arith, file, e)))
+      (others (ends_file now) (λ e. omega (arith, file, e)))
+      (λ mid left on. (on.others (body_file now) (λ e. omega (arith, file, e)), on.others (ends_file now) (λ e. omega (arith, file, e))))
+
+-- ---- a block behind a roll
+
+pub rolled_behind : (log : Log) (block : List ℕ) (before mid after : Files) → IsRolled log [] before mid
+    → after ≡ insert mid (body_of (log.file + 1)) (bytes_of mid (body_of (log.file + 1)) ++ block) → IsRolled log block before after
+rolled_behind log block before mid after r is =
+    let apart = next_apart log.file in
+    let next : ℕ = body_of (log.file + 1) in
+    let more : List ℕ = bytes_of mid next ++ block in
+    let here : get after next ≡ Some more = ap (λ (F : Files). get F next) is ∙ get_same mid next (Some more) in
+    let whole : more ≡ block = ap (λ (c : Content). bytes_in c ++ block) r.next_body in
+    let other : (file : ℕ) → file ≢ next → get after file ≡ get mid file = λ file away. ap (λ (F : Files). get F file) is ∙ get_other mid next file (Some more) away in
+    record {
+      body = other (body_file log) apart.0 ∙ r.body;
+      ends = other (ends_file log) apart.2 ∙ r.ends;
+      next_body = here ∙ ap (λ (l : List ℕ). Some l) whole;
+      next_ends = other (ends_of (log.file + 1)) (λ e. omega (arith, e)) ∙ r.next_ends;
+    }
+
+-- ---- what a roll sealed
+
+-- the file that was sealed is whole in each image, also after calls that leave its pair
+pub whole_after : (t1 t2 : ℕ) (i1 i2 : ℕ → Files → Type 0) (S : Files → Files → Type 0) (file : ℕ) (content : Content) → Passes t1 t2 i1 i2 S
+    → ((mid left : Files) → S mid left → get left file ≡ get mid file) → ((left : Files) → i1 t1 left → get left file ≡ content)
+    → (left : Files) → i2 t2 left → get left file ≡ content
+whole_after t1 t2 i1 i2 S file content passes keeps whole left i =
+    let from = passes.each t2 left passes.later (omega arith) i in
+    keeps from.0 left from.2 ∙ whole from.0 from.1
+
+-- and so is its last mark
+pub mark_after : (t1 t2 : ℕ) (i1 i2 : ℕ → Files → Type 0) (S : Files → Files → Type 0) (log : Log) (mark : ℕ) → Passes t1 t2 i1 i2 S
+    → ((mid left : Files) → S mid left → get left (ends_file log) ≡ get mid (ends_file log)) → ((left : Files) → i1 t1 left → HasMark log mark left)
+    → (left : Files) → i2 t2 left → HasMark log mark left
+mark_after t1 t2 i1 i2 S log mark passes keeps has left i =
+    let from = passes.each t2 left passes.later (omega arith) i in
+    let before = has from.0 from.1 in
+    let same = sym (keeps from.0 left from.2) in
+    record {
+      opened = subst (λ (c : Content). IsOpen (bytes_in c) mark) same before.opened;
+      says = subst (λ (c : Content). numbers_at (bytes_in c) mark ≡ numbers log.end log.back) same before.says;
+    }

@@ -1,0 +1,116 @@
+-- Calls on one file, one after another: what reads give, and what a crash may leave.
+use Rattle.std.proofs.Common.{◌≡◌, ℕ, Bool, List, [], Some, None, IsSome, IsTrue, is_some, refl, sym, ◌∙◌, ap, subst, inl, inr}
+use mathlib.Core.Logic.{◌≢◌}
+use Rattle.std.specs.FinMap.{get, insert}
+use Rattle.xod_volume.specs.Files.{Files, Content}
+use Rattle.xod_volume.specs.Crash.{OnFile, OnBytes, Torn, Shortened, Appears, Passes, IsSame}
+use Rattle.xod_volume.proofs.CallerLemmas.{get_same, Torn-same, OnBytes-same, OnFile-same}
+use Rattle.xod_log.specs.Runs.{Run}
+use Rattle.xod_log.proofs.Runs.{begun, goes}
+use Rattle.xod_log.proofs.Changed.{other_file}
+
+-- ---- what reads give
+
+-- a file that was put in is there
+pub put_there : (before after : Files) (file : ℕ) (bytes : List ℕ) → after ≡ insert before file bytes → get after file ≡ Some bytes
+put_there before after file bytes is = ap (λ (f : Files). get f file) is ∙ get_same before file (Some bytes)
+
+pub put_is_there : (before after : Files) (file : ℕ) (bytes : List ℕ) → after ≡ insert before file bytes → IsSome (get after file)
+put_is_there before after file bytes is = ap is_some (put_there before after file bytes is)
+
+-- ---- what a crash may leave
+
+-- the first call of a run
+pub first_call : (t0 t1 : ℕ) (i0 i1 : ℕ → Files → Type 0) (P S : Files → Files → Type 0) → Passes t0 t1 i0 i1 S
+    → ((was : Files) → P was was) → ((was left : Files) → S was left → P was left) → Run t0 t1 i0 i1 P S
+first_call t0 t1 i0 i1 P S passes still fine =
+    goes t0 i0 P t0 t1 i0 i1 IsSame S S
+    (begun t0 i0 P IsSame (λ was i. refl) (λ was left i same. subst (P was) (sym same) (still was)))
+    passes
+    (λ was mid left i same s. subst (λ (c : Files). S c left) same s)
+    (λ was left i s. fine was left s)
+
+-- a sync adds nothing to the call before it
+pub then_synced : (t0 t1 t2 : ℕ) (i0 i1 i2 : ℕ → Files → Type 0) (S : Files → Files → Type 0) → ((c : Files) → S c c)
+    → Passes t0 t1 i0 i1 S → Passes t1 t2 i1 i2 IsSame → Passes t0 t2 i0 i2 S
+then_synced t0 t1 t2 i0 i1 i2 S still first sync =
+    (goes t0 i0 S t1 t2 i1 i2 S S IsSame
+    (first_call t0 t1 i0 i1 S S first still (λ was left s. s))
+    sync
+    (λ was mid left i s same. subst (S was) (sym same) s)
+    (λ was left i s. s)).passes
+
+-- torn bytes, and a sync
+pub torn_then_synced : (t0 t1 t2 : ℕ) (i0 i1 i2 : ℕ → Files → Type 0) (file at n : ℕ)
+    → Passes t0 t1 i0 i1 (OnFile file (OnBytes (Torn at n))) → Passes t1 t2 i1 i2 IsSame → Passes t0 t2 i0 i2 (OnFile file (OnBytes (Torn at n)))
+torn_then_synced t0 t1 t2 i0 i1 i2 file at n =
+    then_synced t0 t1 t2 i0 i1 i2 (OnFile file (OnBytes (Torn at n))) (OnFile-same file (OnBytes (Torn at n)) (OnBytes-same (Torn at n) (Torn-same at n)))
+
+-- ---- a file is made, or is there, and is emptied
+
+pub appears_still : (file : ℕ) (c : Files) → OnFile file Appears c c
+appears_still file = OnFile-same file Appears (λ o. inl refl)
+
+-- a cut to nothing after it may have come to be
+cut_appears : (was mid left : Content) → Appears was mid → OnBytes (Shortened 0) mid left → Appears was left
+cut_appears was None left (inl same) cut = inl (cut ∙ same)
+cut_appears was None left (inr made) cut = inr (cut ∙ made)
+cut_appears was (Some bytes) left before (is, there, inl kept) = subst (Appears was) (sym (there ∙ ap Some kept)) before
+cut_appears was (Some bytes) left before (is, there, inr empty) = inr (there ∙ ap Some empty)
+
+pub cut_file : (file : ℕ) (was mid left : Files) → OnFile file Appears was mid → OnFile file (OnBytes (Shortened 0)) mid left → OnFile file Appears was left
+cut_file file was mid left before cut = record {
+  here = cut_appears (get was file) (get mid file) (get left file) before.here cut.here;
+  others = λ other apart. cut.others other apart ∙ before.others other apart;
+}
+
+-- The file was made or is there, and nothing else was done.
+pub record Made (file : ℕ) (before after : Files) (t0 t1 : ℕ) (i0 i1 : ℕ → Files → Type 0) : Type 0 where
+  pub there : IsSome (get after file)
+  pub others : (other : ℕ) → other ≢ file → get after other ≡ get before other
+  pub passes : Passes t0 t1 i0 i1 (OnFile file Appears)
+
+pub made_now : (file : ℕ) (before after : Files) (t0 t1 : ℕ) (i0 i1 : ℕ → Files → Type 0) → after ≡ insert before file []
+    → Passes t0 t1 i0 i1 (OnFile file Appears) → Made file before after t0 t1 i0 i1
+made_now file before after t0 t1 i0 i1 is passes = record {
+  there = put_is_there before after file [] is;
+  others = λ other apart. other_file before after file other [] apart is;
+  passes = passes;
+}
+
+pub made_before : (file : ℕ) (before : Files) (t0 : ℕ) (i0 : ℕ → Files → Type 0) → IsSome (get before file) → Made file before before t0 t0 i0 i0
+made_before file before t0 i0 there = record {
+  there = there;
+  others = λ other apart. refl;
+  passes = (begun t0 i0 (OnFile file Appears) (OnFile file Appears) (λ was i. appears_still file was) (λ was left i s. s)).passes;
+}
+
+pub then_cut : (file : ℕ) (before after : Files) (t0 t1 t2 : ℕ) (i0 i1 i2 : ℕ → Files → Type 0) → Made file before after t0 t1 i0 i1
+    → Passes t1 t2 i1 i2 (OnFile file (OnBytes (Shortened 0))) → Passes t0 t2 i0 i2 (OnFile file Appears)
+then_cut file before after t0 t1 t2 i0 i1 i2 made cut =
+    (goes t0 i0 (OnFile file Appears) t1 t2 i1 i2 (OnFile file Appears) (OnFile file Appears) (OnFile file (OnBytes (Shortened 0)))
+    (first_call t0 t1 i0 i1 (OnFile file Appears) (OnFile file Appears) made.passes (appears_still file) (λ was left s. s))
+    cut
+    (λ was mid left i s step. cut_file file was mid left s step)
+    (λ was left i s. s)).passes
+
+-- ---- over the volumes themselves
+
+module _ {V : Type 0} (tells : V → Bool) (files : V → Files) (moment : V → ℕ) (may_leave : V → ℕ → Files → Type 0) (file : ℕ) where
+  -- The file is there now, made since the first volume or before, and nothing else was done.
+  pub record Ready (before now : V) : Type 0 where
+    pub tells_on : tells now ≡ tells before
+    pub made : IsTrue (tells before) → Made file (files before) (files now) (moment before) (moment now) (may_leave before) (may_leave now)
+
+  pub ready_made : (before now by : V) → now ≡ by → tells by ≡ tells before → (IsTrue (tells before) → files by ≡ insert (files before) file [])
+      → (IsTrue (tells before) → Passes (moment before) (moment by) (may_leave before) (may_leave by) (OnFile file Appears)) → Ready before now
+  ready_made before now by is on created passes = subst (Ready before) (sym is) (record {
+    tells_on = on;
+    made = λ told. made_now file (files before) (files by) (moment before) (moment by) (may_leave before) (may_leave by) (created told) (passes told);
+  })
+
+  pub ready_there : (before now : V) → now ≡ before → (IsTrue (tells before) → IsSome (get (files before) file)) → Ready before now
+  ready_there before now is there = subst (Ready before) (sym is) (record {
+    tells_on = refl;
+    made = λ told. made_before file (files before) (moment before) (may_leave before) (there told);
+  })

@@ -1,0 +1,92 @@
+use Rattle.std.proofs.Common.{rules, IsTrue, ◌≡◌, ◌+◌, sym, subst, ap, ◌∙◌, arith}
+use Rattle.xod_volume.specs.Files.{bytes_of}
+use Rattle.xod_log.specs.declared.log.Log.{Log}
+use Rattle.xod_log.specs.Standing.{Stands, body_file, ends_file, sealed_log}
+use Rattle.xod_log.specs.Calls.{Rolls, MakesPair, HasMark}
+use Rattle.xod_log.proofs.Runs.{rested}
+use Rattle.xod_log.proofs.Pairs.{empty_stands}
+use Rattle.xod_log.proofs.Rolling.{start_rolls, seal_rolls, pair_rolls, making_stands, sealed_file, mark_after}
+use Rattle.xod_log.proofs.log.Log.make_next.Goals as goal
+
+pub returns-in_default-clause-leaves : goal.returns-in_default-clause-leaves
+returns-in_default-clause-leaves g c told =
+    let v0 = c.args.volume.now in
+    let log = c.args.self.now in
+    let B = bytes_of (g.V.Volume.files v0) (body_file log) in
+    let E = bytes_of (g.V.Volume.files v0) (ends_file log) in
+    rested (g.V.Volume.moment v0) (g.V.Volume.may_leave v0) (Rolls log B E) (λ was im. start_rolls log B E was ((c.requires.stands told).each was im))
+
+pub returns-in_err-seal-clause-leaves : goal.returns-in_err-seal-clause-leaves
+returns-in_err-seal-clause-leaves g c told =
+    let v0 = c.args.volume.now in
+    let v1 = c.seal.new.volume in
+    let log = c.args.self.now in
+    let B = bytes_of (g.V.Volume.files v0) (body_file log) in
+    let E = bytes_of (g.V.Volume.files v0) (ends_file log) in
+    seal_rolls log B E (g.V.Volume.moment v0) (g.V.Volume.moment v1) (g.V.Volume.moment v1) (g.V.Volume.may_leave v0) (g.V.Volume.may_leave v1) (g.V.Volume.may_leave v1)
+    (c.seal.ensures.leaves told)
+
+pub returns-in_err-make_pair-clause-stands_on : goal.returns-in_err-make_pair-clause-stands_on
+returns-in_err-make_pair-clause-stands_on g c told not_device =
+    let v1 = c.seal.new.volume in
+    let v2 = c.make_pair.new.volume in
+    let t1 : IsTrue (g.V.Volume.tells v1) = rw c.seal.ensures.stays.tells told in
+    making_stands c.args.self.now c.seal.new.self c.in_ok-seal.ensures.log (g.V.Volume.moment v1) (g.V.Volume.moment v2) (g.V.Volume.may_leave v1) (g.V.Volume.may_leave v2)
+    (g.V.Volume.files v1) (g.V.Volume.files v2) (rw c.in-Some.ensures.1 at c.make_pair.ensures.others t1) (rw c.in-Some.ensures.1 at c.make_pair.ensures.crash t1)
+    (c.in_ok-seal.ensures.stands_on told (λ bad. search rules))
+
+pub returns-in_err-make_pair-clause-leaves : goal.returns-in_err-make_pair-clause-leaves
+returns-in_err-make_pair-clause-leaves g c told =
+    let v0 = c.args.volume.now in
+    let v1 = c.seal.new.volume in
+    let v2 = c.make_pair.new.volume in
+    let log = c.args.self.now in
+    let t1 : IsTrue (g.V.Volume.tells v1) = rw c.seal.ensures.stays.tells told in
+    let B = bytes_of (g.V.Volume.files v0) (body_file log) in
+    let E = bytes_of (g.V.Volume.files v0) (ends_file log) in
+    pair_rolls log B E (g.V.Volume.moment v0) (g.V.Volume.moment v1) (g.V.Volume.moment v2) (g.V.Volume.may_leave v0) (g.V.Volume.may_leave v1) (g.V.Volume.may_leave v2)
+    (c.seal.ensures.leaves told) (rw c.in-Some.ensures.1 at c.make_pair.ensures.crash t1)
+
+pub returns-clause-stands_on : goal.returns-clause-stands_on
+returns-clause-stands_on g c told not_device =
+    let v1 = c.seal.new.volume in
+    let v2 = c.make_pair.new.volume in
+    let t1 : IsTrue (g.V.Volume.tells v1) = rw c.seal.ensures.stays.tells told in
+    making_stands c.args.self.now c.seal.new.self c.in_ok-seal.ensures.log (g.V.Volume.moment v1) (g.V.Volume.moment v2) (g.V.Volume.may_leave v1) (g.V.Volume.may_leave v2)
+    (g.V.Volume.files v1) (g.V.Volume.files v2) (rw c.in-Some.ensures.1 at c.make_pair.ensures.others t1) (rw c.in-Some.ensures.1 at c.make_pair.ensures.crash t1)
+    (c.in_ok-seal.ensures.stands_on told (λ bad. search rules))
+
+pub returns-clause-next_stands : goal.returns-clause-next_stands
+returns-clause-next_stands g c told =
+    let v1 = c.seal.new.volume in
+    let v2 = c.make_pair.new.volume in
+    let t1 : IsTrue (g.V.Volume.tells v1) = rw c.seal.ensures.stays.tells told in
+    let stands = empty_stands c.in-Some.file c.seal.new.self.target (g.V.Volume.files v2) (g.V.Volume.may_leave v2 (g.V.Volume.moment v2))
+    (c.in_ok-make_pair.ensures.made t1) (c.in_ok-make_pair.ensures.durable t1) in
+    subst (λ (next : Log). Stands next (g.V.Volume.files v2) (g.V.Volume.may_leave v2 (g.V.Volume.moment v2))) (sym c.empty.ensures) stands
+
+pub returns-clause-leaves : goal.returns-clause-leaves
+returns-clause-leaves g c told =
+    let v0 = c.args.volume.now in
+    let v1 = c.seal.new.volume in
+    let v2 = c.make_pair.new.volume in
+    let log = c.args.self.now in
+    let t1 : IsTrue (g.V.Volume.tells v1) = rw c.seal.ensures.stays.tells told in
+    let B = bytes_of (g.V.Volume.files v0) (body_file log) in
+    let E = bytes_of (g.V.Volume.files v0) (ends_file log) in
+    pair_rolls log B E (g.V.Volume.moment v0) (g.V.Volume.moment v1) (g.V.Volume.moment v2) (g.V.Volume.may_leave v0) (g.V.Volume.may_leave v1) (g.V.Volume.may_leave v2)
+    (c.seal.ensures.leaves told) (rw c.in-Some.ensures.1 at c.make_pair.ensures.crash t1)
+
+pub returns-clause-marked : goal.returns-clause-marked
+returns-clause-marked g c told left mark i is =
+    let v1 = c.seal.new.volume in
+    let v2 = c.make_pair.new.volume in
+    let log = c.args.self.now in
+    let t1 : IsTrue (g.V.Volume.tells v1) = rw c.seal.ensures.stays.tells told in
+    let sealed : c.seal.new.self ≡ sealed_log log = c.in_ok-seal.ensures.log in
+    let file = sealed_file log in
+    mark_after (g.V.Volume.moment v1) (g.V.Volume.moment v2) (g.V.Volume.may_leave v1) (g.V.Volume.may_leave v2) (MakesPair (log.file + 1)) (sealed_log log) mark
+    (rw c.in-Some.ensures.1 at c.make_pair.ensures.crash t1)
+    (λ mid left made. made.others (ends_file (sealed_log log)) (λ e. omega (arith, file, e)) (λ e. omega (arith, file, e)))
+    (λ left i. subst (λ (l : Log). HasMark l mark left) sealed (c.in_ok-seal.ensures.marked told left mark i (ap (λ (l : Log). l.marks) sealed ∙ is)))
+    left i

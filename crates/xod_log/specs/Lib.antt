@@ -1,0 +1,5 @@
+pub mod Errors
+pub mod Ends
+pub mod Standing
+pub mod Calls
+pub mod Runs

@@ -1,0 +1,63 @@
+//! The two volume files of a log file, and how a pair without blocks is made.
+ghost use Rattle.std.specs.Prelude.{◌≡◌, ◌≤◌, ◌+◌, ◌*◌, ◌==◌, ℕ, Bool, OnOk, IsErrOf, IsTrue};
+ghost use mathlib.Core.Logic.{◌≢◌};
+ghost use Rattle.std.specs.List.{list_any};
+ghost use Rattle.std.specs.FinMap.{get};
+ghost use Rattle.xod_base.specs.Causes.{Rose};
+ghost use Rattle.xod_volume.specs.Files.{Files};
+ghost use Rattle.xod_volume.specs.Crash.{Passes};
+ghost use Rattle.xod_volume.specs.Leases.{Stays};
+ghost use Rattle.xod_log.specs.declared.error.LogError.{LogError};
+ghost use Rattle.xod_log.specs.Ends.{body_of, ends_of};
+ghost use Rattle.xod_log.specs.Calls.{IsEmptyPair, MakesPair, no_mark};
+
+use crate::device::{append_synced, make_empty};
+use crate::error::LogError;
+use xod_volume::Volume;
+
+/// The volume file of a log file's body.
+pub fn body_file(file: u32) -> u64
+    ensures { result ≡ body_of file }
+{
+    2 * u64::from(file)
+}
+
+/// The volume file of a log file's ends.
+pub fn ends_file(file: u32) -> u64
+    ensures { result ≡ ends_of file }
+{
+    2 * u64::from(file) + 1
+}
+
+/// Whether the list has the number.
+pub fn lists(numbers: &[u64], file: u64) -> bool
+    ensures { result ≡ list_any (λ other. other == file) numbers.now }
+{
+    numbers.contains(&file)
+}
+
+/// Makes the pair of a log file, without blocks. What was there is lost, so the log file must not be used. First the ends
+/// are emptied and synced: a body never comes to stand beside ends with an open mark.
+pub fn make_pair<V: Volume>(volume: &mut V, file: u32) -> Result<(), LogError>
+    ensures made { IsTrue (V.tells volume.old) → OnOk result (IsEmptyPair file (V.files volume.new)) }
+    ensures others { IsTrue (V.tells volume.old) → (other : ℕ) → other ≢ body_of file → other ≢ ends_of file
+        → get (V.files volume.new) other ≡ get (V.files volume.old) other }
+    ensures durable { IsTrue (V.tells volume.old) → OnOk result ((left : Files)
+        → V.may_leave volume.new (V.moment volume.new) left → IsEmptyPair file left) }
+    ensures crash { IsTrue (V.tells volume.old) → Passes (V.moment volume.old) (V.moment volume.new)
+        (V.may_leave volume.old) (V.may_leave volume.new) (MakesPair file) }
+    ensures numbers_left { (last : ℕ) → ¬ (IsErrOf result (LogError.NumbersSpent last)) }
+    ensures failed { IsErrOf result LogError.Device → Rose (V.faults volume.old) (V.faults volume.new) }
+    ensures stays { Stays (V.tells volume.old) (V.tells volume.new) (V.leases volume.old) (V.leases volume.new)
+        (V.refs volume.old) (V.refs volume.new) (V.faults volume.old) (V.faults volume.new) }
+{
+    let body = body_file(file);
+    let ends = ends_file(file);
+    let present = volume.files()?;
+    let has_ends = lists(&present, ends);
+    let has_body = lists(&present, body);
+    make_empty(volume, ends, has_ends)?;
+    make_empty(volume, body, has_body)?;
+    append_synced(volume, ends, &[0; 13])?;
+    Ok(())
+}
