@@ -18,6 +18,17 @@ put_there before after file bytes is = ap (λ (f : Files). get f file) is ∙ ge
 pub put_is_there : (before after : Files) (file : ℕ) (bytes : List ℕ) → after ≡ insert before file bytes → IsSome (get after file)
 put_is_there before after file bytes is = ap is_some (put_there before after file bytes is)
 
+-- a step goes over to files that are the same
+pub same_after : (step : Files → Files → Type 0) (before after same : Files) → step before after → same ≡ after → step before same
+same_after step before after same on is = subst (step before) (sym is) on
+
+-- a file that was emptied, and may have been made before
+pub emptied_file : (file : ℕ) (before mid after : Files) → ((other : ℕ) → other ≢ file → get mid other ≡ get before other) → after ≡ insert mid file [] → OnFile file Appears before after
+emptied_file file before mid after others is = record {
+  here = inr (put_there mid after file [] is);
+  others = λ other apart. other_file mid after file other [] apart is ∙ others other apart;
+}
+
 -- ---- what a crash may leave
 
 -- the first call of a run
@@ -68,6 +79,7 @@ cut_file file was mid left before cut = record {
 pub record Made (file : ℕ) (before after : Files) (t0 t1 : ℕ) (i0 i1 : ℕ → Files → Type 0) : Type 0 where
   pub there : IsSome (get after file)
   pub others : (other : ℕ) → other ≢ file → get after other ≡ get before other
+  pub reads : OnFile file Appears before after
   pub passes : Passes t0 t1 i0 i1 (OnFile file Appears)
 
 pub made_now : (file : ℕ) (before after : Files) (t0 t1 : ℕ) (i0 i1 : ℕ → Files → Type 0) → after ≡ insert before file []
@@ -75,6 +87,7 @@ pub made_now : (file : ℕ) (before after : Files) (t0 t1 : ℕ) (i0 i1 : ℕ �
 made_now file before after t0 t1 i0 i1 is passes = record {
   there = put_is_there before after file [] is;
   others = λ other apart. other_file before after file other [] apart is;
+  reads = emptied_file file before before after (λ other apart. refl) is;
   passes = passes;
 }
 
@@ -82,6 +95,7 @@ pub made_before : (file : ℕ) (before : Files) (t0 : ℕ) (i0 : ℕ → Files �
 made_before file before t0 i0 there = record {
   there = there;
   others = λ other apart. refl;
+  reads = appears_still file before;
   passes = (begun t0 i0 (OnFile file Appears) (OnFile file Appears) (λ was i. appears_still file was) (λ was left i s. s)).passes;
 }
 

@@ -22,6 +22,8 @@ pub fn write_synced<V: Volume>(
     requires within { IsTrue (V.tells volume.old) → at + length bytes.now ≤ size_of (V.files volume.old) file }
     ensures written { IsTrue (V.tells volume.old) → OnOk result (V.files volume.new
         ≡ insert (V.files volume.old) file (overwritten (bytes_of (V.files volume.old) file) at bytes.now)) }
+    ensures torn { IsTrue (V.tells volume.old) → OnFile file (OnBytes (Torn at (length bytes.now)))
+        (V.files volume.old) (V.files volume.new) }
     ensures others { IsTrue (V.tells volume.old) → (other : ℕ) → other ≢ file
         → get (V.files volume.new) other ≡ get (V.files volume.old) other }
     ensures durable { IsTrue (V.tells volume.old) → OnOk result ((left : Files)
@@ -43,6 +45,8 @@ pub fn append_synced<V: Volume>(volume: &mut V, file: u64, bytes: &[u8]) -> Resu
     requires exists { IsTrue (V.tells volume.old) → IsSome (get (V.files volume.old) file) }
     ensures appended { IsTrue (V.tells volume.old) → OnOk result (V.files volume.new
         ≡ insert (V.files volume.old) file (bytes_of (V.files volume.old) file ++ bytes.now)) }
+    ensures torn { IsTrue (V.tells volume.old) → OnFile file (OnBytes (Torn (size_of (V.files volume.old) file) (length bytes.now)))
+        (V.files volume.old) (V.files volume.new) }
     ensures unchanged { IsTrue (V.tells volume.old) → IsErrOf result LogError.Memory
         → V.files volume.new ≡ V.files volume.old }
     ensures still { IsErrOf result LogError.Memory → V.moment volume.new ≡ V.moment volume.old }
@@ -67,6 +71,7 @@ pub fn append_synced<V: Volume>(volume: &mut V, file: u64, bytes: &[u8]) -> Resu
 pub fn make_empty<V: Volume>(volume: &mut V, file: u64, is_there: bool) -> Result<(), LogError>
     requires known { IsTrue (V.tells volume.old) → is_there ≡ is_some (get (V.files volume.old) file) }
     ensures emptied { IsTrue (V.tells volume.old) → OnOk result (get (V.files volume.new) file ≡ Some []) }
+    ensures reads { IsTrue (V.tells volume.old) → OnFile file Appears (V.files volume.old) (V.files volume.new) }
     ensures others { IsTrue (V.tells volume.old) → (other : ℕ) → other ≢ file
         → get (V.files volume.new) other ≡ get (V.files volume.old) other }
     ensures durable { IsTrue (V.tells volume.old) → OnOk result ((left : Files)

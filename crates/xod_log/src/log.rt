@@ -41,6 +41,7 @@ impl Log {
         ensures stands { IsTrue (V.tells volume.old) → IfOk result (λ log.
             Stands log (V.files volume.new) (V.may_leave volume.new (V.moment volume.new))) }
         ensures made { IsTrue (V.tells volume.old) → OnOk result (IsEmptyPair 0 (V.files volume.new)) }
+        ensures reads { IsTrue (V.tells volume.old) → MakesPair 0 (V.files volume.old) (V.files volume.new) }
         ensures others { IsTrue (V.tells volume.old) → (other : ℕ) → 2 ≤ other
             → get (V.files volume.new) other ≡ get (V.files volume.old) other }
         ensures numbers_left { (last : ℕ) → ¬ (IsErrOf result (LogError.NumbersSpent last)) }
@@ -132,6 +133,8 @@ impl Log {
             → (V.files volume.new ≡ V.files volume.old) × (V.moment volume.new ≡ V.moment volume.old) }
         ensures others { IsTrue (V.tells volume.old) → (other : ℕ) → IsElsewhere self.old other
             → get (V.files volume.new) other ≡ get (V.files volume.old) other }
+        ensures reads { IsTrue (V.tells volume.old) → Appends self.old (length block.now) (bytes_of (V.files volume.old) (body_file self.old))
+            (bytes_of (V.files volume.old) (ends_file self.old)) (V.files volume.old) (V.files volume.new) }
         ensures spent { ((is_due self.old ≡ true) × (self.old.file ≡ last_file)) ↔ (result ≡ Err (LogError.NumbersSpent last_file)) }
         ensures spent_only { (last : ℕ) → IsErrOf result (LogError.NumbersSpent last) → last ≡ last_file }
         ensures untouched { (last : ℕ) → IsErrOf result (LogError.NumbersSpent last)
@@ -183,6 +186,8 @@ impl Log {
             ≡ Some (sealed_ends self.old (bytes_of (V.files volume.old) (ends_file self.old)))) }
         ensures others { IsTrue (V.tells volume.old) → (other : ℕ) → other ≢ ends_file self.old
             → get (V.files volume.new) other ≡ get (V.files volume.old) other }
+        ensures reads { IsTrue (V.tells volume.old) → Seals self.old (bytes_of (V.files volume.old) (body_file self.old))
+            (bytes_of (V.files volume.old) (ends_file self.old)) (V.files volume.old) (V.files volume.new) }
         ensures numbers_left { (last : ℕ) → ¬ (IsErrOf result (LogError.NumbersSpent last)) }
         ensures failed { IsErrOf result LogError.Device → Rose (V.faults volume.old) (V.faults volume.new) }
         ensures stays { Stays (V.tells volume.old) (V.tells volume.new) (V.leases volume.old) (V.leases volume.new)
@@ -232,6 +237,8 @@ impl Log {
             IsRolled self.old [] (V.files volume.old) (V.files volume.new)) }
         ensures others { IsTrue (V.tells volume.old) → (other : ℕ) → IsElsewhere self.old other
             → get (V.files volume.new) other ≡ get (V.files volume.old) other }
+        ensures reads { IsTrue (V.tells volume.old) → Rolls self.old (bytes_of (V.files volume.old) (body_file self.old))
+            (bytes_of (V.files volume.old) (ends_file self.old)) (V.files volume.old) (V.files volume.new) }
         ensures spent { (self.old.file ≡ last_file) ↔ (result ≡ Err (LogError.NumbersSpent last_file)) }
         ensures spent_only { (last : ℕ) → IsErrOf result (LogError.NumbersSpent last) → last ≡ last_file }
         ensures untouched { (last : ℕ) → IsErrOf result (LogError.NumbersSpent last)
@@ -287,6 +294,8 @@ impl Log {
         ensures still { IsErrOf result LogError.Memory → V.moment volume.new ≡ V.moment volume.old }
         ensures others { IsTrue (V.tells volume.old) → (other : ℕ) → other ≢ body_file self.old
             → get (V.files volume.new) other ≡ get (V.files volume.old) other }
+        ensures torn { IsTrue (V.tells volume.old) → OnFile (body_file self.old)
+            (OnBytes (Torn self.old.end (length block.now))) (V.files volume.old) (V.files volume.new) }
         ensures numbers_left { (last : ℕ) → ¬ (IsErrOf result (LogError.NumbersSpent last)) }
         ensures failed { IsErrOf result LogError.Device → Rose (V.faults volume.old) (V.faults volume.new) }
         ensures stays { Stays (V.tells volume.old) (V.tells volume.new) (V.leases volume.old) (V.leases volume.new)
@@ -321,6 +330,8 @@ impl Log {
             ≡ Some (marked_ends self.now (bytes_of (V.files volume.old) (ends_file self.now)))) }
         ensures others { IsTrue (V.tells volume.old) → (other : ℕ) → other ≢ ends_file self.now
             → get (V.files volume.new) other ≡ get (V.files volume.old) other }
+        ensures reads { IsTrue (V.tells volume.old) → Seals self.now (bytes_of (V.files volume.old) (body_file self.now))
+            (bytes_of (V.files volume.old) (ends_file self.now)) (V.files volume.old) (V.files volume.new) }
         ensures durable { IsTrue (V.tells volume.old) → OnOk result ((left : Files)
             → V.may_leave volume.new (V.moment volume.new) left
             → (get left (body_file self.now) ≡ get (V.files volume.old) (body_file self.now))
@@ -362,6 +373,8 @@ impl Log {
             IsRolled self.old [] (V.files volume.old) (V.files volume.new)) }
         ensures others { IsTrue (V.tells volume.old) → (other : ℕ) → IsElsewhere self.old other
             → get (V.files volume.new) other ≡ get (V.files volume.old) other }
+        ensures reads { IsTrue (V.tells volume.old) → Rolls self.old (bytes_of (V.files volume.old) (body_file self.old))
+            (bytes_of (V.files volume.old) (ends_file self.old)) (V.files volume.old) (V.files volume.new) }
         ensures spent { (self.old.file ≡ last_file) ↔ (result ≡ Err (LogError.NumbersSpent last_file)) }
         ensures spent_only { (last : ℕ) → IsErrOf result (LogError.NumbersSpent last) → last ≡ last_file }
         ensures untouched { (last : ℕ) → IsErrOf result (LogError.NumbersSpent last)

@@ -40,6 +40,7 @@ pub fn lists(numbers: &[u64], file: u64) -> bool
 /// are emptied and synced: a body never comes to stand beside ends with an open mark.
 pub fn make_pair<V: Volume>(volume: &mut V, file: u32) -> Result<(), LogError>
     ensures made { IsTrue (V.tells volume.old) → OnOk result (IsEmptyPair file (V.files volume.new)) }
+    ensures reads { IsTrue (V.tells volume.old) → MakesPair file (V.files volume.old) (V.files volume.new) }
     ensures others { IsTrue (V.tells volume.old) → (other : ℕ) → other ≢ body_of file → other ≢ ends_of file
         → get (V.files volume.new) other ≡ get (V.files volume.old) other }
     ensures durable { IsTrue (V.tells volume.old) → OnOk result ((left : Files)

@@ -1,7 +1,8 @@
-use Rattle.std.proofs.Common.{IsTrue, ◌∙◌, ap, sym}
+use Rattle.std.proofs.Common.{IsTrue, length, ◌∙◌, ap, sym}
 use Rattle.std.specs.FinMap.{get}
-use Rattle.xod_volume.specs.Files.{Files}
-use Rattle.xod_log.proofs.Synced.{put_is_there, torn_then_synced}
+use Rattle.xod_volume.specs.Files.{Files, size_of}
+use Rattle.xod_volume.specs.Crash.{OnFile, OnBytes, Torn}
+use Rattle.xod_log.proofs.Synced.{put_is_there, same_after, torn_then_synced}
 use Rattle.xod_log.proofs.device.append_synced.Goals as goal
 
 pub returns-in_err-append-clause-others : goal.returns-in_err-append-clause-others
@@ -34,3 +35,13 @@ pub returns-clause-durable : goal.returns-clause-durable
 returns-clause-durable g c told left i =
     let t1 : IsTrue (g.V.Volume.tells c.append.new.self) = rw c.append.ensures.stays.tells told in
     c.in_ok-sync.ensures.durable t1 left i ∙ sym (ap (λ (f : Files). get f c.args.file) (c.sync.ensures.same t1))
+
+pub returns-in_err-sync-clause-torn : goal.returns-in_err-sync-clause-torn
+returns-in_err-sync-clause-torn g c told =
+    let t1 : IsTrue (g.V.Volume.tells c.append.new.self) = rw c.append.ensures.stays.tells told in
+    same_after (OnFile c.args.file (OnBytes (Torn (size_of (g.V.Volume.files c.args.volume.now) c.args.file) (length c.args.bytes.now)))) _ _ _ (c.append.ensures.torn told) (c.sync.ensures.same t1)
+
+pub returns-clause-torn : goal.returns-clause-torn
+returns-clause-torn g c told =
+    let t1 : IsTrue (g.V.Volume.tells c.append.new.self) = rw c.append.ensures.stays.tells told in
+    same_after (OnFile c.args.file (OnBytes (Torn (size_of (g.V.Volume.files c.args.volume.now) c.args.file) (length c.args.bytes.now)))) _ _ _ (c.append.ensures.torn told) (c.sync.ensures.same t1)

@@ -3,7 +3,7 @@ use Rattle.std.specs.FinMap.{get}
 use Rattle.xod_volume.specs.Files.{Files}
 use Rattle.xod_volume.specs.Crash.{OnFile, Appears}
 use Rattle.xod_log.proofs.Changed.{other_file}
-use Rattle.xod_log.proofs.Synced.{Ready, ready_made, ready_there, put_is_there, put_there, then_cut, then_synced, appears_still}
+use Rattle.xod_log.proofs.Synced.{Ready, ready_made, ready_there, put_is_there, put_there, same_after, emptied_file, then_cut, then_synced, appears_still}
 use Rattle.xod_log.proofs.device.make_empty.Goals.{then-not-is_there+in_ok-create, else-not-is_there}
 use Rattle.xod_log.proofs.device.make_empty.Goals as goal
 
@@ -96,3 +96,32 @@ returns-clause-crash g c told =
     let t1 : IsTrue (g.V.Volume.tells c.if-not-is_there.volume) = rw r.tells_on told in
     let t2 : IsTrue (g.V.Volume.tells c.cut.new.self) = rw c.cut.ensures.stays.tells t1 in
     then_synced _ _ _ _ _ _ (OnFile c.args.file Appears) (appears_still c.args.file) (then_cut c.args.file _ _ _ _ _ _ _ _ (r.made told) (c.cut.ensures.crash t1)) (c.sync.ensures.crash t2)
+
+pub returns-in_err-cut-clause-reads : goal.returns-in_err-cut-clause-reads
+returns-in_err-cut-clause-reads g c told =
+    let r : Ready g.V.Volume.tells g.V.Volume.files g.V.Volume.moment g.V.Volume.may_leave c.args.file c.args.volume.now c.if-not-is_there.volume = elim c.if-not-is_there.branch [
+      | then-not-is_there+in_ok-create w ↦ ready_made _ _ _ _ _ _ _ _ w.volume-is w.create.ensures.stays.tells w.in_ok-create.ensures.created w.create.ensures.crash
+      | else-not-is_there w ↦ ready_there _ _ _ _ _ _ _ w.volume-is (λ told. sym (c.requires.known told) ∙ w.if-not-is_there.false)
+    ] in
+    let t1 : IsTrue (g.V.Volume.tells c.if-not-is_there.volume) = rw r.tells_on told in
+    same_after (OnFile c.args.file Appears) _ _ _ (r.made told).reads (c.in_err-cut.ensures.refused t1)
+
+pub returns-in_err-sync-clause-reads : goal.returns-in_err-sync-clause-reads
+returns-in_err-sync-clause-reads g c told =
+    let r : Ready g.V.Volume.tells g.V.Volume.files g.V.Volume.moment g.V.Volume.may_leave c.args.file c.args.volume.now c.if-not-is_there.volume = elim c.if-not-is_there.branch [
+      | then-not-is_there+in_ok-create w ↦ ready_made _ _ _ _ _ _ _ _ w.volume-is w.create.ensures.stays.tells w.in_ok-create.ensures.created w.create.ensures.crash
+      | else-not-is_there w ↦ ready_there _ _ _ _ _ _ _ w.volume-is (λ told. sym (c.requires.known told) ∙ w.if-not-is_there.false)
+    ] in
+    let t1 : IsTrue (g.V.Volume.tells c.if-not-is_there.volume) = rw r.tells_on told in
+    let t2 : IsTrue (g.V.Volume.tells c.cut.new.self) = rw c.cut.ensures.stays.tells t1 in
+    same_after (OnFile c.args.file Appears) _ _ _ (emptied_file c.args.file _ _ _ (r.made told).others (c.in_ok-cut.ensures.shortened t1)) (c.sync.ensures.same t2)
+
+pub returns-clause-reads : goal.returns-clause-reads
+returns-clause-reads g c told =
+    let r : Ready g.V.Volume.tells g.V.Volume.files g.V.Volume.moment g.V.Volume.may_leave c.args.file c.args.volume.now c.if-not-is_there.volume = elim c.if-not-is_there.branch [
+      | then-not-is_there+in_ok-create w ↦ ready_made _ _ _ _ _ _ _ _ w.volume-is w.create.ensures.stays.tells w.in_ok-create.ensures.created w.create.ensures.crash
+      | else-not-is_there w ↦ ready_there _ _ _ _ _ _ _ w.volume-is (λ told. sym (c.requires.known told) ∙ w.if-not-is_there.false)
+    ] in
+    let t1 : IsTrue (g.V.Volume.tells c.if-not-is_there.volume) = rw r.tells_on told in
+    let t2 : IsTrue (g.V.Volume.tells c.cut.new.self) = rw c.cut.ensures.stays.tells t1 in
+    same_after (OnFile c.args.file Appears) _ _ _ (emptied_file c.args.file _ _ _ (r.made told).others (c.in_ok-cut.ensures.shortened t1)) (c.sync.ensures.same t2)

@@ -5,7 +5,7 @@ use Rattle.xod_log.specs.Standing.{Stands, body_file, ends_file, rolled_log, sea
 use Rattle.xod_log.specs.Ends.{body_of}
 use Rattle.xod_log.specs.Calls.{Rolls, Appends}
 use Rattle.xod_log.proofs.Runs.{weakened}
-use Rattle.xod_log.proofs.Rolling.{due_appends, not_due_appends, block_rolled, block_stands, rolled_behind, sealed_file, mark_after, roll_opens, roll_seals, append_seals}
+use Rattle.xod_log.proofs.Rolling.{due_appends, not_due_appends, block_rolled, block_stands, rolled_behind, block_rolls, sealed_file, whole_after, mark_after, roll_opens, roll_seals, append_seals}
 use Rattle.xod_log.proofs.log.Log.append_block.Given.{Over}
 use Rattle.xod_log.proofs.log.Log.append_block.Goals as goal
 
@@ -168,4 +168,50 @@ returns-clause-marked g c told due left mark i is =
     (rw c.in_ok-next.ensures.next at c.append_here-2.ensures.crash t1)
     (λ mid left on. on.others (ends_file (sealed_log log)) (λ e. omega (arith, file, e)))
     (λ left i. c.in_ok-next.ensures.marked told left mark i is)
+    left i
+
+pub returns-in_err-next-clause-stands_on : goal.returns-in_err-next-clause-stands_on
+returns-in_err-next-clause-stands_on g c told not_device = c.make_next.ensures.stands_on told (λ bad. search rules)
+
+pub returns-in_err-place-clause-reads : goal.returns-in_err-place-clause-reads
+returns-in_err-place-clause-reads g c told =
+    let v0 = c.args.volume.now in
+    let v1 = c.make_next.new.volume in
+    let v2 = c.append_here-2.new.volume in
+    let log = c.args.self.now in
+    let t1 : IsTrue (g.V.Volume.tells v1) = rw c.make_next.ensures.stays.tells told in
+    let B = bytes_of (g.V.Volume.files v0) (body_file log) in
+    let E = bytes_of (g.V.Volume.files v0) (ends_file log) in
+    let count = length c.args.block.now in
+    let stands : Stands (rolled_log log) (g.V.Volume.files v1) (g.V.Volume.may_leave v1 (g.V.Volume.moment v1)) = rw c.in_ok-next.ensures.next at c.in_ok-next.ensures.next_stands told in
+    due_appends log B E count (sym c.is_due.ensures ∙ c.if-not-is_due.false) (g.V.Volume.files v0) (g.V.Volume.files v2)
+    (block_rolls log B E (OnBytes (Torn 0 count)) (g.V.Volume.files v0) (g.V.Volume.files v1) (g.V.Volume.files v2) (c.make_next.ensures.reads told) stands.at_rest.size
+    (rw c.in_ok-next.ensures.next at c.append_here-2.ensures.torn t1))
+
+pub returns-clause-reads : goal.returns-clause-reads
+returns-clause-reads g c told =
+    let v0 = c.args.volume.now in
+    let v1 = c.make_next.new.volume in
+    let v2 = c.append_here-2.new.volume in
+    let log = c.args.self.now in
+    let t1 : IsTrue (g.V.Volume.tells v1) = rw c.make_next.ensures.stays.tells told in
+    let B = bytes_of (g.V.Volume.files v0) (body_file log) in
+    let E = bytes_of (g.V.Volume.files v0) (ends_file log) in
+    let count = length c.args.block.now in
+    let stands : Stands (rolled_log log) (g.V.Volume.files v1) (g.V.Volume.may_leave v1 (g.V.Volume.moment v1)) = rw c.in_ok-next.ensures.next at c.in_ok-next.ensures.next_stands told in
+    due_appends log B E count (sym c.is_due.ensures ∙ c.if-not-is_due.false) (g.V.Volume.files v0) (g.V.Volume.files v2)
+    (block_rolls log B E (OnBytes (Torn 0 count)) (g.V.Volume.files v0) (g.V.Volume.files v1) (g.V.Volume.files v2) (c.make_next.ensures.reads told) stands.at_rest.size
+    (rw c.in_ok-next.ensures.next at c.append_here-2.ensures.torn t1))
+
+pub returns-clause-durable : goal.returns-clause-durable
+returns-clause-durable g c told due left i =
+    let v1 = c.make_next.new.volume in
+    let v2 = c.append_here-2.new.volume in
+    let log = c.args.self.now in
+    let t1 : IsTrue (g.V.Volume.tells v1) = rw c.make_next.ensures.stays.tells told in
+    whole_after (g.V.Volume.moment v1) (g.V.Volume.moment v2) (g.V.Volume.may_leave v1) (g.V.Volume.may_leave v2)
+    (OnFile (body_of (log.file + 1)) (OnBytes (Torn 0 (length c.args.block.now)))) (body_file log) _
+    (rw c.in_ok-next.ensures.next at c.append_here-2.ensures.crash t1)
+    (λ mid left on. on.others (body_file log) (λ e. omega (arith, e)))
+    (c.in_ok-next.ensures.durable told)
     left i

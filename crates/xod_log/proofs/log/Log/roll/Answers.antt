@@ -1,3 +1,4 @@
+use Rattle.std.proofs.Common.{rules}
 use Rattle.xod_log.proofs.Rolling.{roll_opens, roll_seals}
 use Rattle.xod_log.proofs.log.Log.roll.Goals as goal
 
@@ -28,3 +29,6 @@ returns-clause-opens g c told =
     let v1 = c.make_next.new.volume in
     roll_opens c.args.self.now (g.V.Volume.files v0) (g.V.Volume.moment v0) (g.V.Volume.moment v1) (g.V.Volume.may_leave v0) (g.V.Volume.may_leave v1)
     (c.requires.stands told) (c.make_next.ensures.leaves told)
+
+pub returns-in_err-self-clause-stands_on : goal.returns-in_err-self-clause-stands_on
+returns-in_err-self-clause-stands_on g c told not_device = c.make_next.ensures.stands_on told (λ bad. search rules)

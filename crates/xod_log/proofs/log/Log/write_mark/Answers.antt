@@ -3,12 +3,13 @@ use Rattle.std.specs.Prelude.{IsTrue, IsSome}
 use Rattle.std.specs.FinMap.{get}
 use Rattle.xod_volume.specs.Files.{Files, Content, bytes_in, bytes_of, size_of}
 use Rattle.xod_log.specs.Ends.{numbers}
-use Rattle.xod_log.specs.Standing.{body_file, ends_file}
+use Rattle.xod_volume.specs.Crash.{OnFile, OnBytes, Torn}
+use Rattle.xod_log.specs.Standing.{LeftStanding, body_file, ends_file}
 use Rattle.xod_log.specs.Calls.{no_mark}
 use Rattle.xod_log.proofs.Changed.{written_file, appended_file}
 use Rattle.std.proofs.lemmas.Result.{err_from_is_err_and}
 use Rattle.xod_log.proofs.Claims.{files_apart}
-use Rattle.xod_log.proofs.Marking.{followed_ends, numbered_long, followed_long, opened_is, numbered_stands}
+use Rattle.xod_log.proofs.Marking.{followed_ends, numbered_long, followed_long, opened_is, numbered_stands, settled, numbering, following, followed, opening, closing_fine, opening_fine}
 use Rattle.xod_log.proofs.Runs.{unmoved}
 use Rattle.xod_log.proofs.SealRuns.{body_synced, body_whole, numbers_written, mark_appended, mark_whole, gate_opened, numbers_stand, marked_left}
 use Rattle.xod_log.proofs.log.Log.write_mark.Goals as goal
@@ -223,3 +224,65 @@ returns-clause-leaves g c told =
     let run3s = mark_whole log B E s.at_rest c.requires.unsealed _ _ s.each _ _ there3 run3 in
     let run4 = gate_opened log B E s.at_rest c.requires.unsealed _ _ s.each _ _ _ _ run3s (rw (c.ends_file-ends.ensures, c.requires.place) at c.write_synced.ensures.crash t3) in
     run4.passes
+
+pub returns-in_err-append_synced-clause-reads : goal.returns-in_err-append_synced-clause-reads
+returns-in_err-append_synced-clause-reads g c told =
+    let log = c.args.self.now in
+    let v0 = c.args.volume.now in
+    let s = c.requires.stands told in
+    let B = bytes_of (g.V.Volume.files v0) (body_file log) in
+    let E = bytes_of (g.V.Volume.files v0) (ends_file log) in
+    let t1 : IsTrue (g.V.Volume.tells c.sync.new.self) = rw c.sync.ensures.stays.tells told in
+    let f1 : get (g.V.Volume.files c.sync.new.self) (ends_file log) ≡ Some E = ap (λ (F : Files). get F (ends_file log)) (c.sync.ensures.same told) ∙ s.has_ends in
+    let f2 = written_file _ _ (ends_file log) (13 * log.marks) (numbers log.end log.back) E f1 (rw (c.ends_file-ends.ensures, c.requires.place, c.mark_numbers-numbers.ensures) at c.in_ok-write_at.ensures.written t1) in
+    let t2 : IsTrue (g.V.Volume.tells c.write_at.new.self) = rw c.write_at.ensures.stays.tells t1 in
+    let long2 : size_of (g.V.Volume.files c.write_at.new.self) (ends_file log) ≡ 13 * (log.marks + 1) = ap (λ (o : Content). length (bytes_in o)) f2 ∙ numbered_long log B E s.at_rest in
+    let stood : LeftStanding log E (g.V.Volume.files v0) = record { has_body = s.has_body; has_ends = s.has_ends; at_rest = s.at_rest } in
+    let written = subst (λ (f : Files). OnFile (ends_file log) (OnBytes (Torn (13 * log.marks) 12)) f (g.V.Volume.files c.write_at.new.self)) (c.sync.ensures.same told) (rw (c.ends_file-ends.ensures, c.requires.place, c.mark_numbers-numbers.ensures) at c.write_at.ensures.torn t1) in
+    let numbered = numbering log B E s.at_rest (g.V.Volume.files v0) (g.V.Volume.files v0) (g.V.Volume.files c.write_at.new.self) (settled log B E s.at_rest (g.V.Volume.files v0) stood s.has_body) written in
+    let closed = following log B E s.at_rest (g.V.Volume.files v0) (g.V.Volume.files c.write_at.new.self) (g.V.Volume.files c.append_synced.new.volume) _ long2 numbered (rw c.ends_file-ends.ensures at c.append_synced.ensures.torn t2) in
+    closing_fine log B E s.at_rest (13 * (log.marks + 2)) (omega arith) (g.V.Volume.files v0) (g.V.Volume.files c.append_synced.new.volume) stood closed
+
+pub returns-in_err-write_synced-clause-reads : goal.returns-in_err-write_synced-clause-reads
+returns-in_err-write_synced-clause-reads g c told =
+    let log = c.args.self.now in
+    let v0 = c.args.volume.now in
+    let s = c.requires.stands told in
+    let B = bytes_of (g.V.Volume.files v0) (body_file log) in
+    let E = bytes_of (g.V.Volume.files v0) (ends_file log) in
+    let t1 : IsTrue (g.V.Volume.tells c.sync.new.self) = rw c.sync.ensures.stays.tells told in
+    let f1 : get (g.V.Volume.files c.sync.new.self) (ends_file log) ≡ Some E = ap (λ (F : Files). get F (ends_file log)) (c.sync.ensures.same told) ∙ s.has_ends in
+    let f2 = written_file _ _ (ends_file log) (13 * log.marks) (numbers log.end log.back) E f1 (rw (c.ends_file-ends.ensures, c.requires.place, c.mark_numbers-numbers.ensures) at c.in_ok-write_at.ensures.written t1) in
+    let t2 : IsTrue (g.V.Volume.tells c.write_at.new.self) = rw c.write_at.ensures.stays.tells t1 in
+    let long2 : size_of (g.V.Volume.files c.write_at.new.self) (ends_file log) ≡ 13 * (log.marks + 1) = ap (λ (o : Content). length (bytes_in o)) f2 ∙ numbered_long log B E s.at_rest in
+    let stood : LeftStanding log E (g.V.Volume.files v0) = record { has_body = s.has_body; has_ends = s.has_ends; at_rest = s.at_rest } in
+    let written = subst (λ (f : Files). OnFile (ends_file log) (OnBytes (Torn (13 * log.marks) 12)) f (g.V.Volume.files c.write_at.new.self)) (c.sync.ensures.same told) (rw (c.ends_file-ends.ensures, c.requires.place, c.mark_numbers-numbers.ensures) at c.write_at.ensures.torn t1) in
+    let numbered = numbering log B E s.at_rest (g.V.Volume.files v0) (g.V.Volume.files v0) (g.V.Volume.files c.write_at.new.self) (settled log B E s.at_rest (g.V.Volume.files v0) stood s.has_body) written in
+    let closed = following log B E s.at_rest (g.V.Volume.files v0) (g.V.Volume.files c.write_at.new.self) (g.V.Volume.files c.append_synced.new.volume) _ long2 numbered (rw c.ends_file-ends.ensures at c.append_synced.ensures.torn t2) in
+    let t3 : IsTrue (g.V.Volume.tells c.append_synced.new.volume) = rw c.append_synced.ensures.stays.tells t2 in
+    let f3 = appended_file _ _ (ends_file log) no_mark _ f2 (rw c.ends_file-ends.ensures at c.in_ok-append_synced.ensures.appended t2) in
+    let exact = followed log B E s.at_rest (13 * (log.marks + 2)) (g.V.Volume.files v0) (g.V.Volume.files c.append_synced.new.volume) f3 closed in
+    opening_fine log B E s.at_rest c.requires.unsealed (g.V.Volume.files v0) (g.V.Volume.files c.write_synced.new.volume)
+    (opening log B E s.at_rest (g.V.Volume.files v0) (g.V.Volume.files c.append_synced.new.volume) (g.V.Volume.files c.write_synced.new.volume) exact (rw (c.ends_file-ends.ensures, c.requires.place) at c.write_synced.ensures.torn t3))
+
+pub returns-clause-reads : goal.returns-clause-reads
+returns-clause-reads g c told =
+    let log = c.args.self.now in
+    let v0 = c.args.volume.now in
+    let s = c.requires.stands told in
+    let B = bytes_of (g.V.Volume.files v0) (body_file log) in
+    let E = bytes_of (g.V.Volume.files v0) (ends_file log) in
+    let t1 : IsTrue (g.V.Volume.tells c.sync.new.self) = rw c.sync.ensures.stays.tells told in
+    let f1 : get (g.V.Volume.files c.sync.new.self) (ends_file log) ≡ Some E = ap (λ (F : Files). get F (ends_file log)) (c.sync.ensures.same told) ∙ s.has_ends in
+    let f2 = written_file _ _ (ends_file log) (13 * log.marks) (numbers log.end log.back) E f1 (rw (c.ends_file-ends.ensures, c.requires.place, c.mark_numbers-numbers.ensures) at c.in_ok-write_at.ensures.written t1) in
+    let t2 : IsTrue (g.V.Volume.tells c.write_at.new.self) = rw c.write_at.ensures.stays.tells t1 in
+    let long2 : size_of (g.V.Volume.files c.write_at.new.self) (ends_file log) ≡ 13 * (log.marks + 1) = ap (λ (o : Content). length (bytes_in o)) f2 ∙ numbered_long log B E s.at_rest in
+    let stood : LeftStanding log E (g.V.Volume.files v0) = record { has_body = s.has_body; has_ends = s.has_ends; at_rest = s.at_rest } in
+    let written = subst (λ (f : Files). OnFile (ends_file log) (OnBytes (Torn (13 * log.marks) 12)) f (g.V.Volume.files c.write_at.new.self)) (c.sync.ensures.same told) (rw (c.ends_file-ends.ensures, c.requires.place, c.mark_numbers-numbers.ensures) at c.write_at.ensures.torn t1) in
+    let numbered = numbering log B E s.at_rest (g.V.Volume.files v0) (g.V.Volume.files v0) (g.V.Volume.files c.write_at.new.self) (settled log B E s.at_rest (g.V.Volume.files v0) stood s.has_body) written in
+    let closed = following log B E s.at_rest (g.V.Volume.files v0) (g.V.Volume.files c.write_at.new.self) (g.V.Volume.files c.append_synced.new.volume) _ long2 numbered (rw c.ends_file-ends.ensures at c.append_synced.ensures.torn t2) in
+    let t3 : IsTrue (g.V.Volume.tells c.append_synced.new.volume) = rw c.append_synced.ensures.stays.tells t2 in
+    let f3 = appended_file _ _ (ends_file log) no_mark _ f2 (rw c.ends_file-ends.ensures at c.in_ok-append_synced.ensures.appended t2) in
+    let exact = followed log B E s.at_rest (13 * (log.marks + 2)) (g.V.Volume.files v0) (g.V.Volume.files c.append_synced.new.volume) f3 closed in
+    opening_fine log B E s.at_rest c.requires.unsealed (g.V.Volume.files v0) (g.V.Volume.files c.write_synced.new.volume)
+    (opening log B E s.at_rest (g.V.Volume.files v0) (g.V.Volume.files c.append_synced.new.volume) (g.V.Volume.files c.write_synced.new.volume) exact (rw (c.ends_file-ends.ensures, c.requires.place) at c.write_synced.ensures.torn t3))
