@@ -1,12 +1,13 @@
 -- Bytes in pieces one after another: what an overwrite, a read and a cut of some pieces make of the bytes of all.
-use Rattle.std.proofs.Common.{◌≡◌, ◌≤◌, ◌<◌, ℕ, suc, ◌+◌, ◌-◌, min, List, [], ◌∷◌, ◌++◌, length, take, drop, get_or, set, refl, sym, ◌∙◌, ap, subst, inl, inr, arith, append_assoc, append-nil, length-append, Bool, true, false, MatchBool}
+use Rattle.std.proofs.Common.{◌≡◌, ◌≤◌, ◌<◌, ℕ, suc, ◌+◌, ◌-◌, min, List, [], ◌∷◌, ◌++◌, length, take, drop, get_or, set, refl, sym, ◌∙◌, ap, subst, inl, inr, arith, append_assoc, length-set, append-nil, length-append, map, zero, Bool, true, false, MatchBool, if◌then◌else◌}
 use Rattle.std.specs.List.{concat}
-use Rattle.std.proofs.lemmas.Bool.{cases_lt}
-use Rattle.std.proofs.lemmas.List.{take_all, drop_all, take_more, take_more_set, take-append-le, drop-append-le, take_at, take-append-drop, length-take-le, length-drop}
+use Rattle.std.proofs.lemmas.Bool.{cases_lt, false≢true}
+use Rattle.std.proofs.lemmas.List.{take_all, drop_all, take_more, take_more_set, take-append-le, drop-append-le, take_at, take-append-drop, get_or_default, length-take-le, length-drop}
 use Rattle.std.proofs.Math.Seq.{take-append-add, drop-append-add, drop-cons}
 use Rattle.std.proofs.lemmas.List.Folds.{concat-append}
 use Rattle.xod_volume.specs.Files.{overwritten}
 use Rattle.xod_volume.specs.Leases.{Filled}
+use Rattle.xod_volume.specs.Places.{IsPlace, starts_from, starts_of}
 
 -- the bytes fit, so all of them are written
 over_within : (old bytes : List ℕ) (at : ℕ) → at + length bytes ≤ length old → overwritten old at bytes ≡ take at old ++ bytes ++ drop (at + length bytes) old
@@ -182,14 +183,20 @@ from_next done next at from is = omega (arith, is, length-append done next)
 pub concat_last : (pieces : List (List ℕ)) (piece : List ℕ) → concat (pieces ++ piece ∷ []) ≡ concat pieces ++ piece
 concat_last pieces piece = concat-append pieces (piece ∷ []) ∙ ap (λ (m : List ℕ). concat pieces ++ m) (append-nil piece)
 
--- the place that is looked for lies behind this piece
-pub place_next : (pieces : List (List ℕ)) (i at from : ℕ) (piece : List ℕ) → i < length pieces → piece ≡ get_or pieces i piece
-    → at ≡ length (concat (take i pieces)) + from → length piece ≤ from → at ≡ length (concat (take (i + 1) pieces)) + (from - length piece)
-place_next pieces i at from piece lt is so_far le =
-    omega (arith, so_far, le, ap length (concat_more pieces i piece lt is), length-append (concat (take i pieces)) piece)
+-- the last piece got bytes at its end
+pub concat_extended : (done : Bool) (pieces : List (List ℕ)) (i : ℕ) (piece more longer : List ℕ) → done ≡ true → longer ≡ (if done then piece ++ more else piece)
+    → length pieces ≡ i + 1 → piece ≡ get_or pieces i piece → concat (set pieces i longer) ≡ concat pieces ++ more
+concat_extended false pieces i piece more longer not_done _ _ _ = absurd (false≢true not_done)
+concat_extended true pieces i piece more longer is_done grown last is =
+    ap concat (sym (take_all (i + 1) (set pieces i longer) (omega (arith, last, length-set pieces i longer))))
+    ∙ ap concat (take_more_set pieces i longer (omega (arith, last)))
+    ∙ concat_last (take i pieces) longer
+    ∙ ap (λ (m : List ℕ). concat (take i pieces) ++ m) grown
+    ∙ sym (append_assoc (concat (take i pieces)) piece more)
+    ∙ ap (λ (m : List ℕ). m ++ more) (sym (concat_more pieces i piece (omega (arith, last)) is) ∙ ap concat (take_all (i + 1) pieces (omega (arith, last))))
 
 -- the pieces up to one, and then the others
-concat_apart : (pieces : List (List ℕ)) (i : ℕ) → concat pieces ≡ concat (take i pieces) ++ concat (drop i pieces)
+pub concat_apart : (pieces : List (List ℕ)) (i : ℕ) → concat pieces ≡ concat (take i pieces) ++ concat (drop i pieces)
 concat_apart pieces i = ap concat (sym (take-append-drop i pieces)) ∙ concat-append (take i pieces) (drop i pieces)
 
 -- the pieces up to one, and then the first bytes of that one
@@ -224,3 +231,85 @@ pieces_behind true front rest after at within bytes place is =
     ∙ ap (λ (m : List ℕ). overwritten m at bytes) (sym (concat-append front rest))
 pieces_behind false front rest after at within bytes place is =
     concat-append front after ∙ ap (λ (m : List ℕ). concat front ++ m) is ∙ sym (concat-append front rest)
+
+-- where pieces begin, with one more at the end
+starts_longer : (here : ℕ) (pieces : List (List ℕ)) (piece : List ℕ)
+    → starts_from here (map length (pieces ++ piece ∷ [])) ≡ starts_from here (map length pieces) ++ (here + length (concat pieces)) ∷ []
+starts_longer here [] piece = ap (λ (k : ℕ). k ∷ []) (omega arith)
+starts_longer here (first ∷ rest) piece =
+    ap (λ (m : List ℕ). here ∷ m) (starts_longer (here + length first) rest piece
+    ∙ ap (λ (k : ℕ). starts_from (here + length first) (map length rest) ++ k ∷ []) (omega (arith, length-append first (concat rest))))
+
+pub starts_last : (pieces : List (List ℕ)) (piece : List ℕ) → starts_of (pieces ++ piece ∷ []) ≡ starts_of pieces ++ length (concat pieces) ∷ []
+starts_last pieces piece = starts_longer 0 pieces piece ∙ ap (λ (k : ℕ). starts_of pieces ++ k ∷ []) (omega arith)
+
+-- where the first n pieces begin
+starts_first : (n here : ℕ) (pieces : List (List ℕ)) → starts_from here (map length (take n pieces)) ≡ take n (starts_from here (map length pieces))
+starts_first zero here pieces = refl
+starts_first (suc n) here [] = refl
+starts_first (suc n) here (first ∷ rest) = ap (λ (m : List ℕ). here ∷ m) (starts_first n (here + length first) rest)
+
+pub starts_taken : (n : ℕ) (pieces : List (List ℕ)) → starts_of (take n pieces) ≡ take n (starts_of pieces)
+starts_taken n pieces = starts_first n 0 pieces
+
+-- the last of the first pieces is another one: it begins where the one before it ended
+pub starts_set : (pieces : List (List ℕ)) (i : ℕ) (piece : List ℕ) → i < length pieces → starts_of (take (i + 1) (set pieces i piece)) ≡ take (i + 1) (starts_of pieces)
+starts_set pieces i piece lt =
+    ap starts_of (take_more_set pieces i piece lt)
+    ∙ starts_last (take i pieces) piece
+    ∙ sym (starts_last (take i pieces) (get_or pieces i piece))
+    ∙ ap starts_of (sym (take_more pieces i piece lt))
+    ∙ starts_taken (i + 1) pieces
+
+-- where one of them begins
+start_from : (pieces : List (List ℕ)) (here i absent : ℕ) → i < length pieces → get_or (starts_from here (map length pieces)) i absent ≡ here + length (concat (take i pieces))
+start_from (first ∷ rest) here zero absent lt = omega arith
+start_from (first ∷ rest) here (suc i) absent lt =
+    start_from rest (here + length first) i absent (omega (arith, lt)) ∙ omega (arith, length-append first (concat (take i rest)))
+start_from [] here i absent lt = absurd (omega (arith, lt))
+
+pub start_is : (pieces : List (List ℕ)) (i absent : ℕ) → i < length pieces → get_or (starts_of pieces) i absent ≡ length (concat (take i pieces))
+start_is pieces i absent lt = start_from pieces 0 i absent lt ∙ omega arith
+
+-- each piece begins once
+pub starts_length : (here : ℕ) (pieces : List (List ℕ)) → length (starts_from here (map length pieces)) ≡ length pieces
+starts_length here [] = refl
+starts_length here (first ∷ rest) = ap suc (starts_length (here + length first) rest)
+
+-- the place is found: it lies in this piece, and the next begins behind it
+pub is_place : (pieces : List (List ℕ)) (at low high start : ℕ) → low < high → high ≤ low + 1 → high ≤ length pieces
+    → start ≡ length (concat (take low pieces)) → start ≤ at → at < length (concat (take high pieces)) → IsPlace pieces at low (at - start)
+is_place pieces at low high start lt next fits begins le before =
+    let inside : low < length pieces = omega (arith, lt, fits) in
+    let piece : List ℕ = get_or pieces low [] in
+    let longer = concat_more pieces low piece inside (sym (get_or_default pieces low piece [] inside)) in
+    let before_next : at < length (concat (take (low + 1) pieces)) = subst (λ (k : ℕ). at < length (concat (take k pieces))) {x = high} (omega (arith, lt, next)) before in
+    record {
+      index_in = inside;
+      place = omega (arith, begins, le);
+      before_its_end = omega (arith, before_next, ap length longer, length-append (concat (take low pieces)) piece, begins, le);
+    }
+
+-- a read that filled all that it was to fill takes nothing from further on
+pub filled_full : (done next before after : List ℕ) (at n : ℕ) → Filled done at before after n → length after ≡ length before → n ≡ length after → Filled (done ++ next) at before after n
+filled_full done next before after at n first same full =
+    subst (λ (k : ℕ). Filled (done ++ next) at before after k) {x = n + 0} (omega arith)
+    (filled_on done next before after after at (at - length done) n 0 first same refl refl (record { size = omega (arith, full, length-drop n after); front = refl; rest = refl }))
+
+-- a read from behind the first bytes on
+pub filled_behind : (all front back before after : List ℕ) (at within n : ℕ) → all ≡ front ++ back → at ≡ length front + within → Filled back within before after n → Filled all at before after n
+filled_behind all front back before after at within n is place from_back =
+    subst (λ (m : List ℕ). Filled m at before after n) (sym is)
+    (subst (λ (k : ℕ). Filled (front ++ back) k before after n) (sym place)
+    (record {
+      size = omega (arith, from_back.size, length-append front back);
+      front = from_back.front ∙ ap (take n) (sym (drop-append-add front back within));
+      rest = from_back.rest;
+    }))
+
+-- the last piece is another one: all begin where they did
+pub starts_same : (pieces : List (List ℕ)) (i : ℕ) (piece : List ℕ) → length pieces ≡ i + 1 → starts_of (set pieces i piece) ≡ starts_of pieces
+starts_same pieces i piece last =
+    ap starts_of (sym (take_all (i + 1) (set pieces i piece) (omega (arith, last, length-set pieces i piece))))
+    ∙ starts_set pieces i piece (omega (arith, last))
+    ∙ take_all (i + 1) (starts_of pieces) (omega (arith, last, starts_length 0 pieces))

@@ -2,6 +2,7 @@
 //!
 //! `FileTable` keeps a body for each file. Those bytes that were lent stand in pieces that the leases have too, and
 //! those that came since in a list of the body's own: so lending copies no bytes, and neither does an append after it.
+//! Where the body has no bytes of its own and nobody else has the last piece, new bytes go to the end of that piece.
 ghost use Rattle.std.specs.Prelude.{◌≡◌, ◌≤◌, ◌+◌, ◌++◌, [], length, take, IfOk, MatchBool, is_ok, if◌then◌else◌};
 ghost use Rattle.xod_volume.specs.Files.{overwritten};
 ghost use Rattle.xod_volume.specs.Leases.{Filled};
@@ -15,7 +16,7 @@ use xod_base::{Bytes, Memory};
 /// The bytes of a file: the pieces that were shared, and after them those that no lease has.
 #[derive(Drop)]
 pub struct Body {
-    shared: Pieces,
+    pub(crate) shared: Pieces,
     own: Vec<u8>,
 }
 
@@ -87,6 +88,9 @@ impl Body {
         let length = self.shared.len() + self.own.len();
         if length.checked_add(more.len()).is_none() {
             return Err(Memory);
+        }
+        if self.own.is_empty() && self.shared.extend(more)? {
+            return Ok(());
         }
         self.own.extend_from_slice(more)?;
         Ok(())

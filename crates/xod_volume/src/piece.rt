@@ -2,7 +2,7 @@
 //!
 //! `Pieces` makes one of bytes that it is given, without copying them. A piece that somebody else has too can be cut,
 //! since each that has it keeps a length of its own, and it can't be written to.
-ghost use Rattle.std.specs.Prelude.{◌≡◌, ◌≤◌, ◌+◌, length, take, IfOk, MatchResult, MatchBool};
+ghost use Rattle.std.specs.Prelude.{◌≡◌, ◌≤◌, ◌+◌, ◌++◌, length, map, take, IfOk, MatchResult, MatchBool, if◌then◌else◌};
 ghost use Rattle.std.specs.List.{concat};
 ghost use Rattle.xod_volume.specs.Files.{overwritten};
 
@@ -68,6 +68,22 @@ impl Piece {
         &self.bytes[..self.used]
     }
 
+    /// Puts bytes behind those in use if nobody else has the piece, and says whether it did. A refusal changes no byte.
+    ///
+    /// Bytes that a cut left behind those in use are dropped, since only others who had the piece had them in use.
+    pub fn extend(&mut self, more: &[u8]) -> Result<bool, Memory>
+        ensures { MatchResult result (λ done. self.new ≡ (if done then self.old ++ more.now else self.old))
+            (λ _. self.new ≡ self.old) }
+    {
+        let Some(bytes) = Arc::get_mut(&mut self.bytes) else {
+            return Ok(false);
+        };
+        bytes.truncate(self.used);
+        bytes.extend_from_slice(more)?;
+        self.used = bytes.len();
+        Ok(true)
+    }
+
     /// Keeps the first bytes in use alone. Who else has the piece keeps all of them.
     pub fn cut(&mut self, length: usize)
         ensures { self.new ≡ take length self.old }
@@ -82,8 +98,9 @@ impl Piece {
 /// each piece up to the last that the bytes go to, so a caller leaves out those that end before the place.
 pub fn overwrite_pieces(pieces: &mut [Piece], at: usize, bytes: &[u8]) -> bool
     requires { at + length bytes.now ≤ length (concat pieces.old) }
-    ensures { MatchBool result (concat pieces.new ≡ overwritten (concat pieces.old) at bytes.now)
+    ensures bytes { MatchBool result (concat pieces.new ≡ overwritten (concat pieces.old) at bytes.now)
         (concat pieces.new ≡ concat pieces.old) }
+    ensures sizes { map length pieces.new ≡ map length pieces.old }
 {
     if bytes.is_empty() {
         return true;

@@ -1,28 +1,31 @@
 //! Pieces one after another, seen as the bytes that they have in all.
 //!
 //! `Body` keeps here the bytes that it has lent, and gives each lease the same pieces. No byte is copied when one is put
-//! in, shared or cut; each call goes over the pieces from the first.
-ghost use Rattle.std.specs.Prelude.{◌≡◌, ◌≤◌, ◌<◌, ◌+◌, ◌^◌, ◌++◌, [], length, take, drop, IfOk, MatchBool, MatchResult};
+//! in, shared or cut. While nobody else has the last piece, bytes can be put at its end, so that no piece comes about for
+//! them. The piece that has the byte at a place is found by halving, and a read goes from there to the last that it needs.
+ghost use Rattle.std.specs.Prelude.{◌≡◌, ◌≤◌, ◌<◌, ◌+◌, ◌^◌, ◌++◌, [], length, map, take, drop, IfOk, MatchBool, MatchResult, if◌then◌else◌};
 ghost use Rattle.std.specs.List.{concat};
 ghost use Rattle.xod_volume.specs.Files.{overwritten};
 ghost use Rattle.xod_volume.specs.Leases.{Filled};
-ghost use Rattle.xod_volume.specs.Places.{IsPlace};
+ghost use Rattle.xod_volume.specs.Places.{IsPlace, starts_of};
 
 use crate::piece::{Piece, overwrite_pieces};
 use std::alloc::Global;
 use std::marker::Model;
 use xod_base::Memory;
 
-/// Pieces in order, and how many bytes they have in all.
+/// Pieces in order, where each begins, and how many bytes they have in all.
 #[derive(Drop)]
 pub struct Pieces {
-    list: Vec<Piece>,
+    pub(crate) list: Vec<Piece>,
+    starts: Vec<usize>,
     size: usize,
 }
 
 impl Model for Pieces {
     ghost use Rattle.std.specs.Prelude.{◌≡◌, ℕ, List, length};
     ghost use Rattle.std.specs.List.{concat};
+    ghost use Rattle.xod_volume.specs.Places.{starts_of};
     ghost use Rattle.std.specs.Coded.{coded_list, coded_ℕ};
 
     ghost Value = { List ℕ };
@@ -31,7 +34,8 @@ impl Model for Pieces {
 
     ghost view = { λ pieces. concat pieces.list.items };
 
-    ghost invariant = { λ pieces. pieces.size ≡ length (concat pieces.list.items) };
+    ghost invariant = { λ pieces. (pieces.size ≡ length (concat pieces.list.items))
+        × (pieces.starts.items ≡ starts_of pieces.list.items) };
 }
 
 impl Pieces {
@@ -41,6 +45,7 @@ impl Pieces {
     {
         Pieces {
             list: Vec::new(alloc),
+            starts: Vec::new(alloc),
             size: 0,
         }
     }
@@ -58,13 +63,30 @@ impl Pieces {
         ensures { MatchResult result (λ _. self.new ≡ self.old ++ bytes.items)
             (λ back. (self.new ≡ self.old) × (back.items ≡ bytes.items)) }
     {
-        if self.list.reserve(1).is_err() {
+        if self.list.reserve(1).is_err() || self.starts.reserve(1).is_err() {
             return Err(bytes);
         }
         let piece = Piece::new(alloc, bytes)?;
+        self.starts.push_reserved(self.size);
         self.size += piece.len();
         self.list.push_reserved(piece);
         Ok(())
+    }
+
+    /// Puts bytes at the end of the last piece if nobody else has it, and says whether it did. A refusal changes nothing.
+    pub fn extend(&mut self, more: &[u8]) -> Result<bool, Memory>
+        requires { length self.old + length more.now < 2 ^ 64 }
+        ensures { MatchResult result (λ done. self.new ≡ (if done then self.old ++ more.now else self.old))
+            (λ _. self.new ≡ self.old) }
+    {
+        let Some(last) = self.list.last_mut() else {
+            return Ok(false);
+        };
+        let done = last.extend(more)?;
+        if done {
+            self.size += more.len();
+        }
+        Ok(done)
     }
 
     /// The same pieces once more. No byte is copied.
@@ -75,8 +97,10 @@ impl Pieces {
         for piece in &self.list {
             list.push(piece.share()?)?;
         }
+        let starts = Vec::from_slice(alloc, &self.starts)?;
         Ok(Pieces {
             list,
+            starts,
             size: self.size,
         })
     }
@@ -96,13 +120,12 @@ impl Pieces {
     pub fn read(&self, at: usize, out: &mut [u8]) -> usize
         ensures { Filled self.now at out.old out.new result }
     {
-        let mut from = at;
-        let mut filled = 0;
-        for piece in &self.list {
-            filled += fill_behind(piece.as_slice(), from, out, filled);
-            from = from.saturating_sub(piece.len());
+        if at >= self.size {
+            return 0;
         }
-        filled
+        let (index, within) = place_of(&self.list, &self.starts, at);
+        let (_, behind) = self.list.split_at(index);
+        read_pieces(behind, within, out)
     }
 
     /// Writes bytes over those from a place on. Where somebody else has one of the pieces, nothing is changed.
@@ -110,7 +133,7 @@ impl Pieces {
         requires { at + length bytes.now ≤ length self.old }
         ensures { MatchBool result (self.new ≡ overwritten self.old at bytes.now) (self.new ≡ self.old) }
     {
-        overwrite_from(&mut self.list, at, bytes)
+        overwrite_from(&mut self.list, &self.starts, at, bytes)
     }
 
     /// Keeps the first bytes alone.
@@ -118,53 +141,79 @@ impl Pieces {
         ensures { self.new ≡ take length self.old }
     {
         if length < self.size {
-            cut_pieces(&mut self.list, length);
+            cut_pieces(&mut self.list, &mut self.starts, length);
             self.size = length;
         }
     }
 }
 
 /// Which piece has the byte at a place, and how many bytes of that piece come before it.
-fn place_of(pieces: &[Piece], at: usize) -> (usize, usize)
-    requires { at < length (concat pieces.now) }
+fn place_of(pieces: &[Piece], starts: &[usize], at: usize) -> (usize, usize)
+    requires inside { at < length (concat pieces.now) }
+    requires starts { starts.now ≡ starts_of pieces.now }
     ensures { IsPlace pieces.now at result.0 result.1 }
 {
-    let mut from = at;
-    for index in 0..pieces.len() {
-        let size = pieces[index].len();
-        if from < size {
-            return (index, from);
+    // The byte is in a piece from `low` on and before `high`.
+    let mut low = 0;
+    let mut high = pieces.len();
+    while high - low > 1 {
+        let middle = low + (high - low) / 2;
+        if starts[middle] <= at {
+            low = middle;
+        } else {
+            high = middle;
         }
-        from -= size;
     }
-    unreachable!()
+    (low, at - starts[low])
+}
+
+/// Fills `out` from a place in the first of the pieces on, as far as the bytes go, and gives how many those are.
+fn read_pieces(pieces: &[Piece], within: usize, out: &mut [u8]) -> usize
+    ensures { Filled (concat pieces.now) within out.old out.new result }
+{
+    let mut from = within;
+    let mut filled = 0;
+    for piece in pieces {
+        if filled == out.len() {
+            return filled;
+        }
+        filled += fill_behind(piece.as_slice(), from, out, filled);
+        from = from.saturating_sub(piece.len());
+    }
+    filled
 }
 
 /// Writes bytes over those of the pieces from a place on. Where somebody else has one that they go to, nothing is changed.
-fn overwrite_from(pieces: &mut [Piece], at: usize, bytes: &[u8]) -> bool
-    requires { at + length bytes.now ≤ length (concat pieces.old) }
-    ensures { MatchBool result (concat pieces.new ≡ overwritten (concat pieces.old) at bytes.now)
+fn overwrite_from(pieces: &mut [Piece], starts: &[usize], at: usize, bytes: &[u8]) -> bool
+    requires within { at + length bytes.now ≤ length (concat pieces.old) }
+    requires starts { starts.now ≡ starts_of pieces.old }
+    ensures bytes { MatchBool result (concat pieces.new ≡ overwritten (concat pieces.old) at bytes.now)
         (concat pieces.new ≡ concat pieces.old) }
+    ensures sizes { map length pieces.new ≡ map length pieces.old }
 {
     if bytes.is_empty() {
         return true;
     }
-    let (index, within) = place_of(pieces, at);
+    let (index, within) = place_of(pieces, starts, at);
     let (_, behind) = pieces.split_at_mut(index);
     overwrite_pieces(behind, within, bytes)
 }
 
 /// Keeps the first bytes alone, and no piece that has none of them.
-fn cut_pieces(pieces: &mut Vec<Piece>, kept: usize)
-    requires { kept < length (concat pieces.old.items) }
-    ensures { concat pieces.new.items ≡ take kept (concat pieces.old.items) }
+fn cut_pieces(pieces: &mut Vec<Piece>, starts: &mut Vec<usize>, kept: usize)
+    requires inside { kept < length (concat pieces.old.items) }
+    requires starts { starts.old.items ≡ starts_of pieces.old.items }
+    ensures bytes { concat pieces.new.items ≡ take kept (concat pieces.old.items) }
+    ensures starts { starts.new.items ≡ starts_of pieces.new.items }
 {
-    let (index, within) = place_of(pieces, kept);
+    let (index, within) = place_of(pieces, starts, kept);
     if within > 0 {
         pieces[index].cut(within);
         pieces.truncate(index + 1);
+        starts.truncate(index + 1);
     } else {
         pieces.truncate(index);
+        starts.truncate(index);
     }
 }
 

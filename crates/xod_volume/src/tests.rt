@@ -80,6 +80,14 @@ fn first_four(volume: &mut MemoryVolume, file: u64) -> ([u8; 4], usize) {
     four_from(volume, file, 0)
 }
 
+/// How many pieces a file has.
+fn piece_count(volume: &MemoryVolume, file: u64) -> usize {
+    match volume.disk.table.body(file) {
+        Some(body) => body.shared.list.len(),
+        None => 9,
+    }
+}
+
 fn take(volume: &mut MemoryVolume, step: &Step) -> bool {
     match step {
         Step::Create(file) => create(volume, *file).is_ok(),
@@ -151,6 +159,36 @@ fn a_lease_keeps_its_bytes_while_its_file_is_cut(rt: HostRuntime) -> Result<(), 
     assert_eq!(rt; four_from(&mut volume, 1, 3), ([120, 121, 0, 0], 2));
     assert!(rt; take(&mut volume, &Step::Cut(1, 2)));
     assert_eq!(rt; first_four(&mut volume, 1), ([97, 98, 0, 0], 2));
+    Ok(())
+}
+
+#[test]
+fn a_piece_comes_only_for_what_was_appended_beside_a_lease(rt: HostRuntime) -> Result<(), Fail> {
+    let mut volume = MemoryVolume::new(rt.alloc())?;
+    assert!(rt; take(&mut volume, &Step::Create(1)));
+    for step in [
+        Step::Append(1, b"ab"),
+        Step::Append(1, b"cd"),
+        Step::Append(1, b"ef"),
+    ] {
+        assert!(rt; take(&mut volume, &step));
+        let lease = lend(&mut volume, 1)?;
+        volume.take_back(lease);
+    }
+    assert_eq!(rt; piece_count(&volume, 1), 1);
+    let mut lease = lend(&mut volume, 1)?;
+    assert!(rt; take(&mut volume, &Step::Append(1, b"gh")));
+    match lend(&mut volume, 1) {
+        Ok(longer) => volume.take_back(longer),
+        Err(_) => assert!(rt; false),
+    }
+    assert_eq!(rt; piece_count(&volume, 1), 2);
+    let mut out = [0; 8];
+    let lent = lease.read(1, 0, &mut out);
+    volume.take_back(lease);
+    assert_eq!(rt; lent, Ok(6));
+    assert_eq!(rt; out, [97, 98, 99, 100, 101, 102, 0, 0]);
+    assert_eq!(rt; four_from(&mut volume, 1, 4), ([101, 102, 103, 104], 4));
     Ok(())
 }
 

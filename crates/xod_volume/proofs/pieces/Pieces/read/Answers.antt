@@ -1,18 +1,17 @@
-use Rattle.std.proofs.Common.{◌≡◌, ◌+◌, ◌-◌, ◌++◌, length, take, List, ℕ, arith, sym, ◌∙◌, ap, subst}
+use Rattle.std.proofs.Common.{take, drop, List, ℕ, sym, ◌∙◌, ap, subst}
 use Rattle.std.specs.List.{concat}
 use Rattle.xod_volume.specs.Leases.{Filled}
-use Rattle.xod_volume.proofs.Joined.{filled_on, from_next, concat_more}
+use Rattle.xod_volume.specs.Places.{IsPlace}
+use Rattle.xod_volume.proofs.Joined.{filled_behind, concat_apart}
 use Rattle.xod_volume.proofs.pieces.Pieces.read.Goals as goal
 
-pub loop-piece-preserved : goal.loop-piece-preserved
-loop-piece-preserved c =
-    let i = c.loop-piece.piece-index in
-    let pieces = c.deref-piece-items.result.now in
-    let done = concat (take i pieces) in
-    let next : concat (take (i + 1) pieces) ≡ done ++ c.as_slice.result.now = concat_more pieces i c.piece-item.result (omega arith) c.piece-item.is ∙ ap (λ (m : List ℕ). done ++ m) (sym c.as_slice.ensures) in
-    let was = c.loop-piece.invariant in (
-      subst (λ (m : List ℕ). Filled m c.args.at c.args.out.now c.fill_behind-filled.new.out (c.loop-piece.filled + c.fill_behind-filled.result)) (sym next)
-          (filled_on done c.as_slice.result.now c.args.out.now c.loop-piece.out c.fill_behind-filled.new.out c.args.at c.loop-piece.from c.loop-piece.filled c.fill_behind-filled.result was.0 was.2 was.1 c.fill_behind-filled.ensures.first_stay c.fill_behind-filled.ensures.filled),
-      c.saturating_sub-from.ensures ∙ ap (λ (k : ℕ). c.loop-piece.from - k) (c.len.ensures ∙ ap length (sym c.as_slice.ensures)) ∙ from_next done c.as_slice.result.now c.args.at c.loop-piece.from was.1 ∙ ap (λ (m : List ℕ). c.args.at - length m) (sym next),
-      omega (arith, was.2, c.fill_behind-filled.auto.out),
-    )
+pub returns : goal.returns
+returns c =
+    let pieces = c.self.inside.list.items in
+    let index = c.place_of-index.result.0 in
+    let within = c.place_of-index.result.1 in
+    let place : IsPlace pieces c.args.at index within = subst (λ (m : List (List ℕ)). IsPlace m c.args.at index within) c.deref.ensures.value c.place_of-index.ensures in
+    let from_back : Filled (concat (drop index pieces)) within c.args.out.now c.read_pieces.new.out c.read_pieces.result =
+    subst (λ (m : List (List ℕ)). Filled (concat m) within c.args.out.now c.read_pieces.new.out c.read_pieces.result) (c.split_at.ensures.back ∙ ap (drop index) c.deref-3.ensures.value) c.read_pieces.ensures in
+    filled_behind c.args.self.now (concat (take index pieces)) (concat (drop index pieces)) c.args.out.now c.read_pieces.new.out c.args.at within c.read_pieces.result
+    (sym c.self.view_is ∙ concat_apart pieces index) place.place from_back
