@@ -123,6 +123,12 @@ module _ (log : Log) (B E : List ℕ) where
   pub not_due_appends : (count : ℕ) → is_due log ≡ false → (was left : Files) → OnFile (body_file log) (OnBytes (Torn log.end count)) was left → Appends log count B E was left
   not_due_appends count due was left on = subst (λ (b : Bool). MatchBool b (Rolls log B E was left) (OnFile (body_file log) (OnBytes (Torn log.end count)) was left)) (sym due) on
 
+  pub appends_due : (count : ℕ) → is_due log ≡ true → (was left : Files) → Appends log count B E was left → Rolls log B E was left
+  appends_due count due was left a = subst (λ (b : Bool). MatchBool b (Rolls log B E was left) (OnFile (body_file log) (OnBytes (Torn log.end count)) was left)) due a
+
+  pub appends_not_due : (count : ℕ) → is_due log ≡ false → (was left : Files) → Appends log count B E was left → OnFile (body_file log) (OnBytes (Torn log.end count)) was left
+  appends_not_due count due was left a = subst (λ (b : Bool). MatchBool b (Rolls log B E was left) (OnFile (body_file log) (OnBytes (Torn log.end count)) was left)) due a
+
 -- ---- the calls together
 
 module _ (log : Log) (B E : List ℕ) (t0 t1 t2 : ℕ) (i0 i1 i2 : ℕ → Files → Type 0) where

@@ -1,8 +1,8 @@
 -- How the images go over several calls of a volume, one after another.
-use Rattle.std.proofs.Common.{◌≡◌, ◌≤◌, inl, inr, ℕ, arith, subst}
+use Rattle.std.proofs.Common.{◌⊎◌, ◌≡◌, ◌≤◌, inl, inr, ℕ, arith, subst}
 use Rattle.std.proofs.lemmas.Bool.{cases_lt}
 use Rattle.xod_volume.specs.Files.{Files}
-use Rattle.xod_volume.specs.Crash.{Passes}
+use Rattle.xod_volume.specs.Crash.{Passes, LeftSince}
 use Rattle.xod_log.specs.Runs.{Run}
 
 module _ (t0 : ℕ) (i0 : ℕ → Files → Type 0) (P : Files → Files → Type 0) where
@@ -95,3 +95,11 @@ joined t0 t1 t2 i0 i1 i2 P S first second moves =
     (goes t0 i0 P t1 t2 i1 i2 (λ was c. (P was c) × (i1 t1 c)) P S (record { passes = first; present = start }) second
     (λ was mid left began now step. moves was mid left began now.1 now.0 step)
     (λ was left began now. now)).passes
+
+-- what may be left since a moment before a call was so before the call, or is left since its start
+pub since_either : (since before now : ℕ) (past images : ℕ → Files → Type 0) (step : Files → Files → Type 0) → Passes before now past images step
+    → (files : Files) → LeftSince since now images files → LeftSince since before past files ⊎ LeftSince before now images files
+since_either since before now past images step passes files left = elim (cases_lt left.0 before) [
+  | inl earlier ↦ inl (left.0, left.1, omega (arith, earlier), passes.same left.0 files (omega (arith, earlier)) left.3)
+  | inr later ↦ inr (left.0, later, left.2, left.3)
+]

@@ -93,7 +93,7 @@ OpensOnly log ends left = (mark : ℕ) → IsOpen (bytes_of left (ends_file log)
     → ((mark < log.marks) × (take (13 * log.marks) (bytes_of left (ends_file log)) ≡ take (13 * log.marks) ends))
     ⊎ ((log.is_sealed ≡ false) × (mark ≡ log.marks) × (numbers_at (bytes_of left (ends_file log)) mark ≡ numbers log.end log.back))
 
--- The last mark of the log is open and has the numbers of its last block. A log without marks has no block.
+-- The last mark of the log is open and has the numbers of its last block.
 pub record HasMark (log : Log) (mark : ℕ) (left : Files) : Type 0 where
   pub opened : IsOpen (bytes_of left (ends_file log)) mark
   pub says : numbers_at (bytes_of left (ends_file log)) mark ≡ numbers log.end log.back

@@ -28,6 +28,7 @@ pub fn write_synced<V: Volume>(
         → get (V.files volume.new) other ≡ get (V.files volume.old) other }
     ensures durable { IsTrue (V.tells volume.old) → OnOk result ((left : Files)
         → V.may_leave volume.new (V.moment volume.new) left → get left file ≡ get (V.files volume.new) file) }
+    ensures kept { IsTrue (V.tells volume.old) → V.may_leave volume.new (V.moment volume.new) (V.files volume.new) }
     ensures crash { IsTrue (V.tells volume.old) → Passes (V.moment volume.old) (V.moment volume.new)
         (V.may_leave volume.old) (V.may_leave volume.new) (OnFile file (OnBytes (Torn at (length bytes.now)))) }
     ensures only_device { (error : LogError) → IsErrOf result error → error ≡ LogError.Device }
@@ -54,6 +55,7 @@ pub fn append_synced<V: Volume>(volume: &mut V, file: u64, bytes: &[u8]) -> Resu
         → get (V.files volume.new) other ≡ get (V.files volume.old) other }
     ensures durable { IsTrue (V.tells volume.old) → OnOk result ((left : Files)
         → V.may_leave volume.new (V.moment volume.new) left → get left file ≡ get (V.files volume.new) file) }
+    ensures kept { IsTrue (V.tells volume.old) → V.may_leave volume.new (V.moment volume.new) (V.files volume.new) }
     ensures crash { IsTrue (V.tells volume.old) → Passes (V.moment volume.old) (V.moment volume.new)
         (V.may_leave volume.old) (V.may_leave volume.new)
         (OnFile file (OnBytes (Torn (size_of (V.files volume.old) file) (length bytes.now)))) }
@@ -76,6 +78,7 @@ pub fn make_empty<V: Volume>(volume: &mut V, file: u64, is_there: bool) -> Resul
         → get (V.files volume.new) other ≡ get (V.files volume.old) other }
     ensures durable { IsTrue (V.tells volume.old) → OnOk result ((left : Files)
         → V.may_leave volume.new (V.moment volume.new) left → get left file ≡ Some []) }
+    ensures kept { IsTrue (V.tells volume.old) → V.may_leave volume.new (V.moment volume.new) (V.files volume.new) }
     ensures crash { IsTrue (V.tells volume.old) → Passes (V.moment volume.old) (V.moment volume.new)
         (V.may_leave volume.old) (V.may_leave volume.new) (OnFile file Appears) }
     ensures numbers_left { (last : ℕ) → ¬ (IsErrOf result (LogError.NumbersSpent last)) }

@@ -50,6 +50,8 @@ impl Log {
             (V.refs volume.old) (V.refs volume.new) (V.faults volume.old) (V.faults volume.new) }
 
         // What a crash may leave.
+        ensures kept { IsTrue (V.tells volume.old) → V.may_leave volume.old (V.moment volume.old) (V.files volume.old)
+            → V.may_leave volume.new (V.moment volume.new) (V.files volume.new) }
         ensures leaves { IsTrue (V.tells volume.old) → Passes (V.moment volume.old) (V.moment volume.new)
             (V.may_leave volume.old) (V.may_leave volume.new) (MakesPair 0) }
     {
@@ -108,7 +110,7 @@ impl Log {
     }
 
     /// Appends a block, whose root begins `back` bytes before its end, and gives where it begins. The file is rolled first
-    /// where it has reached the target. After `Memory` the log is on the same file.
+    /// where it has reached the target. After a refusal the log is on the same file.
     pub fn append_block<V: Volume>(
         &mut self,
         volume: &mut V,
@@ -120,6 +122,9 @@ impl Log {
         ensures place { IfOk result (λ place. place ≡ next_place_of self.old) }
         ensures whole { IsTrue (V.tells volume.old) → IfOk result (λ place.
             EndsWith (V.files volume.new) place block.now) }
+        ensures behind_it { IfOk result (λ place. (self.new.file ≡ place.file)
+            × (self.new.end ≡ place.at + length block.now)) }
+        ensures fits { OnOk result (self.new.end < 2 ^ 64) }
         ensures log { OnOk result (self.new ≡ appended_log (receiving_log self.old) (length block.now) back) }
         ensures refused { OnErr result ((self.new ≡ self.old)
             ⊎ ((is_due self.old ≡ true) × (self.new ≡ sealed_log self.old))) }
@@ -144,6 +149,8 @@ impl Log {
             (V.refs volume.old) (V.refs volume.new) (V.faults volume.old) (V.faults volume.new) }
 
         // What a crash may leave.
+        ensures kept { IsTrue (V.tells volume.old) → V.may_leave volume.old (V.moment volume.old) (V.files volume.old)
+            → V.may_leave volume.new (V.moment volume.new) (V.files volume.new) }
         ensures leaves { IsTrue (V.tells volume.old) → Passes (V.moment volume.old) (V.moment volume.new)
             (V.may_leave volume.old) (V.may_leave volume.new) (Appends self.old (length block.now)
             (bytes_of (V.files volume.old) (body_file self.old)) (bytes_of (V.files volume.old) (ends_file self.old))) }
@@ -194,6 +201,8 @@ impl Log {
             (V.refs volume.old) (V.refs volume.new) (V.faults volume.old) (V.faults volume.new) }
 
         // What a crash may leave.
+        ensures kept { IsTrue (V.tells volume.old) → V.may_leave volume.old (V.moment volume.old) (V.files volume.old)
+            → V.may_leave volume.new (V.moment volume.new) (V.files volume.new) }
         ensures leaves { IsTrue (V.tells volume.old) → Passes (V.moment volume.old) (V.moment volume.new)
             (V.may_leave volume.old) (V.may_leave volume.new) (Seals self.old
             (bytes_of (V.files volume.old) (body_file self.old)) (bytes_of (V.files volume.old) (ends_file self.old))) }
@@ -224,7 +233,7 @@ impl Log {
         Ok(())
     }
 
-    /// Seals, and goes on to the next file, whose pair is made. After `Memory` the log is on the same file, which may be
+    /// Seals, and goes on to the next file, whose pair is made. After a refusal the log is on the same file, which may be
     /// sealed, and the next pair may be there, unused.
     pub fn roll<V: Volume>(&mut self, volume: &mut V) -> Result<(), LogError>
         requires stands { IsTrue (V.tells volume.old) → Stands self.old (V.files volume.old)
@@ -248,6 +257,8 @@ impl Log {
             (V.refs volume.old) (V.refs volume.new) (V.faults volume.old) (V.faults volume.new) }
 
         // What a crash may leave.
+        ensures kept { IsTrue (V.tells volume.old) → V.may_leave volume.old (V.moment volume.old) (V.files volume.old)
+            → V.may_leave volume.new (V.moment volume.new) (V.files volume.new) }
         ensures leaves { IsTrue (V.tells volume.old) → Passes (V.moment volume.old) (V.moment volume.new)
             (V.may_leave volume.old) (V.may_leave volume.new) (Rolls self.old
             (bytes_of (V.files volume.old) (body_file self.old)) (bytes_of (V.files volume.old) (ends_file self.old))) }
@@ -284,6 +295,7 @@ impl Log {
         ensures place { IfOk result (λ place. place ≡ record { file = self.old.file; at = self.old.end }) }
         ensures whole { IsTrue (V.tells volume.old) → IfOk result (λ place.
             EndsWith (V.files volume.new) place block.now) }
+        ensures fits { OnOk result (self.new.end < 2 ^ 64) }
         ensures log { self.new ≡ (if is_ok result then appended_log self.old (length block.now) back else self.old) }
         ensures stands_on { IsTrue (V.tells volume.old) → ¬ (IsErrOf result LogError.Device)
             → Stands self.new (V.files volume.new) (V.may_leave volume.new (V.moment volume.new)) }
@@ -300,6 +312,8 @@ impl Log {
         ensures failed { IsErrOf result LogError.Device → Rose (V.faults volume.old) (V.faults volume.new) }
         ensures stays { Stays (V.tells volume.old) (V.tells volume.new) (V.leases volume.old) (V.leases volume.new)
             (V.refs volume.old) (V.refs volume.new) (V.faults volume.old) (V.faults volume.new) }
+        ensures kept { IsTrue (V.tells volume.old) → V.may_leave volume.old (V.moment volume.old) (V.files volume.old)
+            → V.may_leave volume.new (V.moment volume.new) (V.files volume.new) }
         ensures crash { IsTrue (V.tells volume.old) → Passes (V.moment volume.old) (V.moment volume.new)
             (V.may_leave volume.old) (V.may_leave volume.new)
             (OnFile (body_file self.old) (OnBytes (Torn self.old.end (length block.now)))) }
@@ -344,6 +358,8 @@ impl Log {
             (V.refs volume.old) (V.refs volume.new) (V.faults volume.old) (V.faults volume.new) }
 
         // What a crash may leave.
+        ensures kept { IsTrue (V.tells volume.old) → V.may_leave volume.old (V.moment volume.old) (V.files volume.old)
+            → V.may_leave volume.new (V.moment volume.new) (V.files volume.new) }
         ensures leaves { IsTrue (V.tells volume.old) → Passes (V.moment volume.old) (V.moment volume.new)
             (V.may_leave volume.old) (V.may_leave volume.new) (Seals self.now
             (bytes_of (V.files volume.old) (body_file self.now)) (bytes_of (V.files volume.old) (ends_file self.now))) }
@@ -384,6 +400,8 @@ impl Log {
             (V.refs volume.old) (V.refs volume.new) (V.faults volume.old) (V.faults volume.new) }
 
         // What a crash may leave.
+        ensures kept { IsTrue (V.tells volume.old) → V.may_leave volume.old (V.moment volume.old) (V.files volume.old)
+            → V.may_leave volume.new (V.moment volume.new) (V.files volume.new) }
         ensures leaves { IsTrue (V.tells volume.old) → Passes (V.moment volume.old) (V.moment volume.new)
             (V.may_leave volume.old) (V.may_leave volume.new) (Rolls self.old
             (bytes_of (V.files volume.old) (body_file self.old)) (bytes_of (V.files volume.old) (ends_file self.old))) }

@@ -45,6 +45,8 @@ pub fn make_pair<V: Volume>(volume: &mut V, file: u32) -> Result<(), LogError>
         → get (V.files volume.new) other ≡ get (V.files volume.old) other }
     ensures durable { IsTrue (V.tells volume.old) → OnOk result ((left : Files)
         → V.may_leave volume.new (V.moment volume.new) left → IsEmptyPair file left) }
+    ensures kept { IsTrue (V.tells volume.old) → V.may_leave volume.old (V.moment volume.old) (V.files volume.old)
+        → V.may_leave volume.new (V.moment volume.new) (V.files volume.new) }
     ensures crash { IsTrue (V.tells volume.old) → Passes (V.moment volume.old) (V.moment volume.new)
         (V.may_leave volume.old) (V.may_leave volume.new) (MakesPair file) }
     ensures numbers_left { (last : ℕ) → ¬ (IsErrOf result (LogError.NumbersSpent last)) }

@@ -1,11 +1,12 @@
-use Rattle.std.proofs.Common.{IsTrue, ◌≡◌, [], Some, ◌∙◌, ap, sym, length}
+use Rattle.std.proofs.Common.{IsTrue, IsSome, ◌≡◌, [], Some, ◌∙◌, ap, sym, subst, refl, length, arith}
 use Rattle.std.specs.FinMap.{get}
 use Rattle.xod_volume.specs.Files.{Files, Content, bytes_in}
+use Rattle.xod_volume.specs.Crash.{OnFile, Appears}
 use Rattle.xod_log.specs.Ends.{body_of, ends_of}
 use Rattle.xod_log.specs.Calls.{IsEmptyPair}
 use Rattle.xod_log.proofs.Claims.{files_apart}
 use Rattle.xod_log.proofs.Changed.{appended_file}
-use Rattle.xod_log.proofs.Pairs.{listed, run_listed, run_ends, run_body, run_mark, pair_left}
+use Rattle.xod_log.proofs.Pairs.{listed, emptied_fine, emptied_short, short_body, short_mark, short_fine, run_listed, run_ends, run_body, run_mark, pair_left}
 use Rattle.xod_log.proofs.pair.make_pair.Goals as goal
 
 pub returns-in_err-present-clause-crash : goal.returns-in_err-present-clause-crash
@@ -92,3 +93,109 @@ returns-clause-crash g c told =
     let k3 = run_body c.args.file _ _ _ _ _ _ k2 (rw c.ends_file-ends.ensures at c.in_ok-make_empty.ensures.durable t1) (rw c.body_file-body.ensures at c.make_empty-2.ensures.crash t2) in
     let empty : get (g.V.Volume.files c.make_empty-2.new.volume) (ends_of c.args.file) ≡ Some [] = (rw c.body_file-body.ensures at c.make_empty-2.ensures.others t2) (ends_of c.args.file) (λ e. files_apart c.args.file (sym e)) ∙ (rw c.ends_file-ends.ensures at c.in_ok-make_empty.ensures.emptied t1) in
     run_mark c.args.file _ _ _ _ _ _ _ (ap (λ (o : Content). length (bytes_in o)) empty) k3 (rw c.ends_file-ends.ensures at c.append_synced.ensures.crash t3)
+
+pub returns-in_err-make_empty-clause-reads : goal.returns-in_err-make_empty-clause-reads
+returns-in_err-make_empty-clause-reads g c told =
+    let t1 : IsTrue (g.V.Volume.tells c.files.new.self) = rw c.files.ensures.stays.tells told in
+    let on : OnFile (ends_of c.args.file) Appears (g.V.Volume.files c.args.volume.now) (g.V.Volume.files c.make_empty.new.volume) =
+    subst (λ (f : Files). OnFile (ends_of c.args.file) Appears f (g.V.Volume.files c.make_empty.new.volume)) (c.files.ensures.same told) (rw c.ends_file-ends.ensures at c.make_empty.ensures.reads t1) in
+    emptied_fine c.args.file (g.V.Volume.files c.args.volume.now) (g.V.Volume.files c.make_empty.new.volume) on
+
+pub returns-in_err-make_empty-clause-others : goal.returns-in_err-make_empty-clause-others
+returns-in_err-make_empty-clause-others g c told other not_body not_ends =
+    let t1 : IsTrue (g.V.Volume.tells c.files.new.self) = rw c.files.ensures.stays.tells told in
+    let on : OnFile (ends_of c.args.file) Appears (g.V.Volume.files c.args.volume.now) (g.V.Volume.files c.make_empty.new.volume) =
+    subst (λ (f : Files). OnFile (ends_of c.args.file) Appears f (g.V.Volume.files c.make_empty.new.volume)) (c.files.ensures.same told) (rw c.ends_file-ends.ensures at c.make_empty.ensures.reads t1) in
+    (emptied_fine c.args.file (g.V.Volume.files c.args.volume.now) (g.V.Volume.files c.make_empty.new.volume) on).others other not_body not_ends
+
+pub returns-in_err-make_empty-2-clause-reads : goal.returns-in_err-make_empty-2-clause-reads
+returns-in_err-make_empty-2-clause-reads g c told =
+    let t1 : IsTrue (g.V.Volume.tells c.files.new.self) = rw c.files.ensures.stays.tells told in
+    let t2 : IsTrue (g.V.Volume.tells c.make_empty.new.volume) = rw c.make_empty.ensures.stays.tells t1 in
+    let on : OnFile (ends_of c.args.file) Appears (g.V.Volume.files c.args.volume.now) (g.V.Volume.files c.make_empty.new.volume) =
+    subst (λ (f : Files). OnFile (ends_of c.args.file) Appears f (g.V.Volume.files c.make_empty.new.volume)) (c.files.ensures.same told) (rw c.ends_file-ends.ensures at c.make_empty.ensures.reads t1) in
+    let short = short_body c.args.file 0 (g.V.Volume.files c.args.volume.now) (g.V.Volume.files c.make_empty.new.volume) (g.V.Volume.files c.make_empty-2.new.volume)
+    (emptied_short c.args.file (g.V.Volume.files c.args.volume.now) (g.V.Volume.files c.make_empty.new.volume) (rw c.ends_file-ends.ensures at c.in_ok-make_empty.ensures.emptied t1) on)
+    (rw c.body_file-body.ensures at c.make_empty-2.ensures.reads t2) in
+    short_fine c.args.file 0 (g.V.Volume.files c.args.volume.now) (g.V.Volume.files c.make_empty-2.new.volume) (omega arith) short
+
+pub returns-in_err-make_empty-2-clause-others : goal.returns-in_err-make_empty-2-clause-others
+returns-in_err-make_empty-2-clause-others g c told other not_body not_ends =
+    let t1 : IsTrue (g.V.Volume.tells c.files.new.self) = rw c.files.ensures.stays.tells told in
+    let t2 : IsTrue (g.V.Volume.tells c.make_empty.new.volume) = rw c.make_empty.ensures.stays.tells t1 in
+    let on : OnFile (ends_of c.args.file) Appears (g.V.Volume.files c.args.volume.now) (g.V.Volume.files c.make_empty.new.volume) =
+    subst (λ (f : Files). OnFile (ends_of c.args.file) Appears f (g.V.Volume.files c.make_empty.new.volume)) (c.files.ensures.same told) (rw c.ends_file-ends.ensures at c.make_empty.ensures.reads t1) in
+    let short = short_body c.args.file 0 (g.V.Volume.files c.args.volume.now) (g.V.Volume.files c.make_empty.new.volume) (g.V.Volume.files c.make_empty-2.new.volume)
+    (emptied_short c.args.file (g.V.Volume.files c.args.volume.now) (g.V.Volume.files c.make_empty.new.volume) (rw c.ends_file-ends.ensures at c.in_ok-make_empty.ensures.emptied t1) on)
+    (rw c.body_file-body.ensures at c.make_empty-2.ensures.reads t2) in
+    (short_fine c.args.file 0 (g.V.Volume.files c.args.volume.now) (g.V.Volume.files c.make_empty-2.new.volume) (omega arith) short).others other not_body not_ends
+
+pub returns-in_err-append_synced-clause-reads : goal.returns-in_err-append_synced-clause-reads
+returns-in_err-append_synced-clause-reads g c told =
+    let t1 : IsTrue (g.V.Volume.tells c.files.new.self) = rw c.files.ensures.stays.tells told in
+    let t2 : IsTrue (g.V.Volume.tells c.make_empty.new.volume) = rw c.make_empty.ensures.stays.tells t1 in
+    let t3 : IsTrue (g.V.Volume.tells c.make_empty-2.new.volume) = rw c.make_empty-2.ensures.stays.tells t2 in
+    let on : OnFile (ends_of c.args.file) Appears (g.V.Volume.files c.args.volume.now) (g.V.Volume.files c.make_empty.new.volume) =
+    subst (λ (f : Files). OnFile (ends_of c.args.file) Appears f (g.V.Volume.files c.make_empty.new.volume)) (c.files.ensures.same told) (rw c.ends_file-ends.ensures at c.make_empty.ensures.reads t1) in
+    let short = short_body c.args.file 0 (g.V.Volume.files c.args.volume.now) (g.V.Volume.files c.make_empty.new.volume) (g.V.Volume.files c.make_empty-2.new.volume)
+    (emptied_short c.args.file (g.V.Volume.files c.args.volume.now) (g.V.Volume.files c.make_empty.new.volume) (rw c.ends_file-ends.ensures at c.in_ok-make_empty.ensures.emptied t1) on)
+    (rw c.body_file-body.ensures at c.make_empty-2.ensures.reads t2) in
+    let empty : get (g.V.Volume.files c.make_empty-2.new.volume) (ends_of c.args.file) ≡ Some [] = (rw c.body_file-body.ensures at c.make_empty-2.ensures.others t2) (ends_of c.args.file) (λ e. files_apart c.args.file (sym e)) ∙ (rw c.ends_file-ends.ensures at c.in_ok-make_empty.ensures.emptied t1) in
+    short_fine c.args.file 13 (g.V.Volume.files c.args.volume.now) (g.V.Volume.files c.append_synced.new.volume) (omega arith)
+    (short_mark c.args.file 13 _ (g.V.Volume.files c.args.volume.now) (g.V.Volume.files c.make_empty-2.new.volume) (g.V.Volume.files c.append_synced.new.volume)
+    (ap (λ (o : Content). length (bytes_in o)) empty) short (rw c.ends_file-ends.ensures at c.append_synced.ensures.torn t3))
+
+pub returns-in_err-append_synced-clause-others : goal.returns-in_err-append_synced-clause-others
+returns-in_err-append_synced-clause-others g c told other not_body not_ends =
+    let t1 : IsTrue (g.V.Volume.tells c.files.new.self) = rw c.files.ensures.stays.tells told in
+    let t2 : IsTrue (g.V.Volume.tells c.make_empty.new.volume) = rw c.make_empty.ensures.stays.tells t1 in
+    let t3 : IsTrue (g.V.Volume.tells c.make_empty-2.new.volume) = rw c.make_empty-2.ensures.stays.tells t2 in
+    let on : OnFile (ends_of c.args.file) Appears (g.V.Volume.files c.args.volume.now) (g.V.Volume.files c.make_empty.new.volume) =
+    subst (λ (f : Files). OnFile (ends_of c.args.file) Appears f (g.V.Volume.files c.make_empty.new.volume)) (c.files.ensures.same told) (rw c.ends_file-ends.ensures at c.make_empty.ensures.reads t1) in
+    let short = short_body c.args.file 0 (g.V.Volume.files c.args.volume.now) (g.V.Volume.files c.make_empty.new.volume) (g.V.Volume.files c.make_empty-2.new.volume)
+    (emptied_short c.args.file (g.V.Volume.files c.args.volume.now) (g.V.Volume.files c.make_empty.new.volume) (rw c.ends_file-ends.ensures at c.in_ok-make_empty.ensures.emptied t1) on)
+    (rw c.body_file-body.ensures at c.make_empty-2.ensures.reads t2) in
+    let empty : get (g.V.Volume.files c.make_empty-2.new.volume) (ends_of c.args.file) ≡ Some [] = (rw c.body_file-body.ensures at c.make_empty-2.ensures.others t2) (ends_of c.args.file) (λ e. files_apart c.args.file (sym e)) ∙ (rw c.ends_file-ends.ensures at c.in_ok-make_empty.ensures.emptied t1) in
+    (short_fine c.args.file 13 (g.V.Volume.files c.args.volume.now) (g.V.Volume.files c.append_synced.new.volume) (omega arith)
+    (short_mark c.args.file 13 _ (g.V.Volume.files c.args.volume.now) (g.V.Volume.files c.make_empty-2.new.volume) (g.V.Volume.files c.append_synced.new.volume)
+    (ap (λ (o : Content). length (bytes_in o)) empty) short (rw c.ends_file-ends.ensures at c.append_synced.ensures.torn t3))).others other not_body not_ends
+
+pub returns-clause-reads : goal.returns-clause-reads
+returns-clause-reads g c told =
+    let t1 : IsTrue (g.V.Volume.tells c.files.new.self) = rw c.files.ensures.stays.tells told in
+    let t2 : IsTrue (g.V.Volume.tells c.make_empty.new.volume) = rw c.make_empty.ensures.stays.tells t1 in
+    let t3 : IsTrue (g.V.Volume.tells c.make_empty-2.new.volume) = rw c.make_empty-2.ensures.stays.tells t2 in
+    let on : OnFile (ends_of c.args.file) Appears (g.V.Volume.files c.args.volume.now) (g.V.Volume.files c.make_empty.new.volume) =
+    subst (λ (f : Files). OnFile (ends_of c.args.file) Appears f (g.V.Volume.files c.make_empty.new.volume)) (c.files.ensures.same told) (rw c.ends_file-ends.ensures at c.make_empty.ensures.reads t1) in
+    let short = short_body c.args.file 0 (g.V.Volume.files c.args.volume.now) (g.V.Volume.files c.make_empty.new.volume) (g.V.Volume.files c.make_empty-2.new.volume)
+    (emptied_short c.args.file (g.V.Volume.files c.args.volume.now) (g.V.Volume.files c.make_empty.new.volume) (rw c.ends_file-ends.ensures at c.in_ok-make_empty.ensures.emptied t1) on)
+    (rw c.body_file-body.ensures at c.make_empty-2.ensures.reads t2) in
+    let empty : get (g.V.Volume.files c.make_empty-2.new.volume) (ends_of c.args.file) ≡ Some [] = (rw c.body_file-body.ensures at c.make_empty-2.ensures.others t2) (ends_of c.args.file) (λ e. files_apart c.args.file (sym e)) ∙ (rw c.ends_file-ends.ensures at c.in_ok-make_empty.ensures.emptied t1) in
+    short_fine c.args.file 13 (g.V.Volume.files c.args.volume.now) (g.V.Volume.files c.append_synced.new.volume) (omega arith)
+    (short_mark c.args.file 13 _ (g.V.Volume.files c.args.volume.now) (g.V.Volume.files c.make_empty-2.new.volume) (g.V.Volume.files c.append_synced.new.volume)
+    (ap (λ (o : Content). length (bytes_in o)) empty) short (rw c.ends_file-ends.ensures at c.append_synced.ensures.torn t3))
+
+pub returns-clause-others : goal.returns-clause-others
+returns-clause-others g c told other not_body not_ends =
+    let t1 : IsTrue (g.V.Volume.tells c.files.new.self) = rw c.files.ensures.stays.tells told in
+    let t2 : IsTrue (g.V.Volume.tells c.make_empty.new.volume) = rw c.make_empty.ensures.stays.tells t1 in
+    let t3 : IsTrue (g.V.Volume.tells c.make_empty-2.new.volume) = rw c.make_empty-2.ensures.stays.tells t2 in
+    let on : OnFile (ends_of c.args.file) Appears (g.V.Volume.files c.args.volume.now) (g.V.Volume.files c.make_empty.new.volume) =
+    subst (λ (f : Files). OnFile (ends_of c.args.file) Appears f (g.V.Volume.files c.make_empty.new.volume)) (c.files.ensures.same told) (rw c.ends_file-ends.ensures at c.make_empty.ensures.reads t1) in
+    let short = short_body c.args.file 0 (g.V.Volume.files c.args.volume.now) (g.V.Volume.files c.make_empty.new.volume) (g.V.Volume.files c.make_empty-2.new.volume)
+    (emptied_short c.args.file (g.V.Volume.files c.args.volume.now) (g.V.Volume.files c.make_empty.new.volume) (rw c.ends_file-ends.ensures at c.in_ok-make_empty.ensures.emptied t1) on)
+    (rw c.body_file-body.ensures at c.make_empty-2.ensures.reads t2) in
+    let empty : get (g.V.Volume.files c.make_empty-2.new.volume) (ends_of c.args.file) ≡ Some [] = (rw c.body_file-body.ensures at c.make_empty-2.ensures.others t2) (ends_of c.args.file) (λ e. files_apart c.args.file (sym e)) ∙ (rw c.ends_file-ends.ensures at c.in_ok-make_empty.ensures.emptied t1) in
+    (short_fine c.args.file 13 (g.V.Volume.files c.args.volume.now) (g.V.Volume.files c.append_synced.new.volume) (omega arith)
+    (short_mark c.args.file 13 _ (g.V.Volume.files c.args.volume.now) (g.V.Volume.files c.make_empty-2.new.volume) (g.V.Volume.files c.append_synced.new.volume)
+    (ap (λ (o : Content). length (bytes_in o)) empty) short (rw c.ends_file-ends.ensures at c.append_synced.ensures.torn t3))).others other not_body not_ends
+
+pub append_synced-requires : goal.append_synced-requires
+append_synced-requires g c =
+    record {
+      exists = λ t3.
+          let t2 : IsTrue (g.V.Volume.tells c.make_empty.new.volume) = rw c.make_empty-2.ensures.stays.tells at t3 in
+          let t1 : IsTrue (g.V.Volume.tells c.files.new.self) = rw c.make_empty.ensures.stays.tells at t2 in
+          let empty : get (g.V.Volume.files c.make_empty-2.new.volume) (ends_of c.args.file) ≡ Some [] = (rw c.body_file-body.ensures at c.make_empty-2.ensures.others t2) (ends_of c.args.file) (λ e. files_apart c.args.file (sym e)) ∙ (rw c.ends_file-ends.ensures at c.in_ok-make_empty.ensures.emptied t1) in
+          subst (λ (o : Content). IsSome o) (sym (ap (get (g.V.Volume.files c.make_empty-2.new.volume)) c.ends_file-ends.ensures ∙ empty)) refl;
+    }
