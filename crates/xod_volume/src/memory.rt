@@ -5,6 +5,7 @@
 //! `crash`. It fails where its plan says so, where a call finds no room in the record, and where a `write_at` would
 //! change bytes that a lease has: such a call changes nothing and is not recorded.
 ghost use Rattle.std.specs.Prelude.{◌≡◌, ◌≤◌, ◌∷◌, ℕ, [], true, IfOk, is_ok, if◌then◌else◌, length};
+ghost use Rattle.std.specs.Arc.{arc_value};
 ghost use Rattle.std.specs.FinMap.{get};
 ghost use Rattle.xod_volume.specs.Files.{Files, no_files};
 ghost use Rattle.xod_volume.specs.Leases.{holds_file, without};
@@ -41,6 +42,7 @@ impl MemoryVolume {
         ensures moment { IfOk result (λ volume. ⟦<MemoryVolume as Volume>⟧.moment volume ≡ 0) }
         ensures leases { IfOk result (λ volume. ⟦<MemoryVolume as Volume>⟧.leases volume ≡ []) }
         ensures faults { IfOk result (λ volume. ⟦<MemoryVolume as Volume>⟧.faults volume ≡ 0) }
+        ensures planned { IfOk result (λ volume. (arc_value volume.plan).failing.items ≡ []) }
     {
         MemoryVolume::failing(alloc, &[])
     }
@@ -54,6 +56,7 @@ impl MemoryVolume {
         ensures moment { IfOk result (λ volume. ⟦<MemoryVolume as Volume>⟧.moment volume ≡ 0) }
         ensures leases { IfOk result (λ volume. ⟦<MemoryVolume as Volume>⟧.leases volume ≡ []) }
         ensures faults { IfOk result (λ volume. ⟦<MemoryVolume as Volume>⟧.faults volume ≡ 0) }
+        ensures planned { IfOk result (λ volume. (arc_value volume.plan).failing.items ≡ calls.now) }
     {
         let plan = Plan::new(Vec::from_slice(alloc, calls)?);
         Ok(MemoryVolume::on(alloc, FileTable::new(alloc), FileTable::new(alloc), plan)?)
@@ -67,6 +70,7 @@ impl MemoryVolume {
         ensures calls { IfOk result (λ volume. volume.disk.calls.items ≡ []) }
         ensures leases { IfOk result (λ volume. volume.lent.items ≡ []) }
         ensures faults { IfOk result (λ volume. volume.faults ≡ 0) }
+        ensures planned { IfOk result (λ volume. (arc_value volume.plan).failing.items ≡ plan.failing.items) }
     {
         let plan = Arc::new(alloc, plan)?;
         let disk = Disk::new(alloc, start, table)?;
@@ -100,6 +104,7 @@ impl MemoryVolume {
         ensures moment { IfOk result (λ volume. ⟦<MemoryVolume as Volume>⟧.moment volume ≡ 0) }
         ensures leases { IfOk result (λ volume. ⟦<MemoryVolume as Volume>⟧.leases volume ≡ []) }
         ensures faults { IfOk result (λ volume. ⟦<MemoryVolume as Volume>⟧.faults volume ≡ 0) }
+        ensures planned { IfOk result (λ volume. (arc_value volume.plan).failing.items ≡ []) }
     {
         let calls = &self.disk.calls[..moment as usize];
         let start = crashed_files(self.alloc, &self.disk.start, calls, choice)?;
