@@ -252,12 +252,6 @@ module _ (log : Log) (B E : List ℕ) (rest : AtRest log.marks E E) where
         pair = inr (record { unsealed = unsealed; whole = s.whole; has_ends = bytes.0; size = n.size; front = n.front_is; says = n.says; next_gate = n.next_gate });
       }
 
-  pub followed_fine : log.is_sealed ≡ false → (was left : Files) → Exactly followed_ends was left → Seals log B E was left
-  followed_fine unsealed was left s = opening_fine unsealed was left (record { others = s.others; whole = s.whole; ends = followed_ends; there = s.there; numbered = followed_numbered })
-
-  pub marked_fine : log.is_sealed ≡ false → (was left : Files) → Exactly (marked_ends log E) was left → Seals log B E was left
-  marked_fine unsealed was left s = opening_fine unsealed was left (record { others = s.others; whole = s.whole; ends = marked_ends log E; there = s.there; numbered = marked_numbered })
-
   -- ---- the log stands again
 
   -- after a call that came to the numbers at most
