@@ -1,16 +1,16 @@
 //! The program: it makes the real objects, hands them to the top call, and ends with its status.
 #![tactic(auto)]
 
-ghost use Rattle.xod_shell.specs.Endings.{IsTold};
-ghost use Rattle.xod_shell.specs.declared.top.ending.Ending.TheVariants.{NoMemory};
+ghost use Rattle.xod_first_shell.specs.Endings.{IsTold};
+ghost use Rattle.xod_first_shell.specs.declared.top.ending.Ending.TheVariants.{NoMemory};
 
 use std::io::ErrorKind;
 use std::process::ExitCode;
 use std::rt::Env;
 use std::vec::Vec;
 use std::{env, io};
-use xod_io::{Sink, StdSink, StdSource, write_all};
-use xod_shell::{Outcome, xod_quiet};
+use xod_first_io::{Sink, StdSink, StdSource, write_all};
+use xod_first_shell::{Outcome, xod_quiet};
 
 /// The words of the command line behind the program's name.
 fn words<R: Env + AllocGlobal>(rt: &R) -> io::Result<Vec<String>> {

@@ -1,3 +1,6 @@
 pub mod ByteOrder
+pub mod CallerLemmas
+mod IdNumbers
 pub mod KeyEnds
 pub mod KeyOrder
+pub mod ViewLemmas

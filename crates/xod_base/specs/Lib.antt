@@ -1,6 +1,11 @@
 pub mod Causes
 pub mod Evaluation
+pub mod Ids
 pub mod Laws
+pub mod Names
+pub mod Queries
+pub mod QueryTexts
 pub mod Rows
 pub mod Text
 pub mod Values
+pub mod Views

@@ -1,10 +1,10 @@
 -- The contents of a store: names in order of first use, entities, and what belongs to each.
-use Rattle.std.specs.Prelude.{ℕ, zero, suc, ◌^◌, Bool, true, not, ◌&&◌, List, [], ◌∷◌, length, Option, Some, None, is_some, nat_lt, nat_le, ◌==◌, if◌then◌else◌, refl}
+use Rattle.std.specs.Prelude.{ℕ, zero, suc, Bool, true, not, ◌&&◌, List, [], ◌∷◌, ◌++◌, map, length, Option, Some, None, is_some, nat_lt, nat_le, ◌==◌, if◌then◌else◌, refl}
 use Rattle.std.specs.List.{list_all}
 use Rattle.std.specs.declared.cmp.Ordering.{Ordering}
 use Rattle.std.specs.Ordering.{on}
-use Rattle.std.specs.FinMap.{FinMap, get, entries, empty}
-use Rattle.std.specs.FinMap as map
+use Rattle.std.specs.FinMap.{FinMap, get, entries, keys, empty}
+use Rattle.std.specs.FinMap as map_of
 use Rattle.std.specs.Coded.{Coded, code_by, coded×, coded_ℕ, coded_list}
 use base.Stored.{coded_unit}
 use Rattle.xod_base.specs.declared.value.EntityId.{EntityId}
@@ -12,21 +12,9 @@ use Rattle.xod_base.specs.declared.value.Value.{Value}
 use Rattle.xod_base.specs.declared.value.Value.TheVariants.{Flag, Int, Text}
 use Rattle.xod_base.specs.contracts.value.EntityId as id_contracts
 use Rattle.xod_base.specs.contracts.value.Value as value_contracts
+use Rattle.xod_base.specs.declared.limits.TheConstants.{MOST_NAMES, LONGEST_NAME, LONGEST_TEXT, MOST_LOCALS}
 use Rattle.xod_base.specs.Text.{is_text}
 use Rattle.xod_base.specs.Values.{bytes_cmp, same_bytes, is_value}
-
--- The limits of a store.
-abbrev pub MOST_NAMES : ℕ
-MOST_NAMES = 4096
-
-abbrev pub LONGEST_NAME : ℕ
-LONGEST_NAME = 255
-
-abbrev pub LONGEST_TEXT : ℕ
-LONGEST_TEXT = 1024
-
-abbrev pub MOST_LOCALS : ℕ
-MOST_LOCALS = 2 ^ 32
 
 -- ids are ordered by type number, then by local number
 abbrev pub numbers_of_id : EntityId → List ℕ
@@ -34,6 +22,9 @@ numbers_of_id id = id.kind ∷ id.local ∷ []
 
 abbrev pub id_cmp : EntityId → EntityId → Ordering
 id_cmp = on numbers_of_id bytes_cmp
+
+abbrev pub same_id : EntityId → EntityId → Bool
+same_id a b = (a.kind == b.kind) && (a.local == b.local)
 
 -- what a property is of: an entity, and the property's name
 abbrev pub Cell : Type 0
@@ -46,17 +37,31 @@ numbers_of_cell cell = cell.0.kind ∷ cell.0.local ∷ cell.1
 abbrev pub cell_cmp : Cell → Cell → Ordering
 cell_cmp = on numbers_of_cell bytes_cmp
 
+-- a link: its source, its name, its target
+abbrev pub LinkKey : Type 0
+LinkKey = EntityId × (List ℕ × EntityId)
+
+-- by source, then by the bytes of the name, then by target; the 0 behind the name is below each of its bytes
+abbrev pub numbers_of_link : LinkKey → List ℕ
+numbers_of_link link = link.0.kind ∷ link.0.local ∷ (map (λ byte. suc byte) link.1.0 ++ (0 ∷ link.1.1.kind ∷ link.1.1.local ∷ []))
+
+abbrev pub link_cmp : LinkKey → LinkKey → Ordering
+link_cmp = on numbers_of_link bytes_cmp
+
 -- The contents of a store. Equal contents are equal rows.
 pub record RowsValue : Type 0 where
-  -- the names of types and of properties, in order of first use
+  -- the names of types, of properties and of links, in order of first use
   pub types : List (List ℕ)
   pub props : List (List ℕ)
+  pub links : List (List ℕ)
   -- for each type the next local number
   pub nexts : List ℕ
   -- the entities that are there
   pub ids : FinMap id_cmp (Unit {0})
   -- the value of each property that an entity has
   pub values : FinMap cell_cmp Value
+  -- which entities are linked by which names
+  pub joined : FinMap link_cmp (Unit {0})
 
 abbrev pub names_code : Coded (List (List ℕ))
 names_code = coded_list (coded_list coded_ℕ)
@@ -65,23 +70,26 @@ abbrev pub id_code : Coded EntityId
 id_code = (id_contracts.the_row).coded
 
 abbrev pub ids_code : Coded (FinMap id_cmp (Unit {0}))
-ids_code = map.code id_code coded_unit
+ids_code = map_of.code id_code coded_unit
 
 abbrev pub values_code : Coded (FinMap cell_cmp Value)
-values_code = map.code (coded× id_code (coded_list coded_ℕ)) ((value_contracts.the_row).coded)
+values_code = map_of.code (coded× id_code (coded_list coded_ℕ)) ((value_contracts.the_row).coded)
+
+abbrev pub joined_code : Coded (FinMap link_cmp (Unit {0}))
+joined_code = map_of.code (coded× id_code (coded× (coded_list coded_ℕ) id_code)) coded_unit
 
 -- how a proof tells rows apart
 abbrev pub rows_code : Coded RowsValue
 rows_code =
-    code_by (List (List ℕ) × (List (List ℕ) × (List ℕ × (FinMap id_cmp (Unit {0}) × FinMap cell_cmp Value))))
-    (coded× names_code (coded× names_code (coded× (coded_list coded_ℕ) (coded× ids_code values_code))))
-    (λ r. (r.types, (r.props, (r.nexts, (r.ids, r.values)))))
-    (λ p. record { types = p.0; props = p.1.0; nexts = p.1.1.0; ids = p.1.1.1.0; values = p.1.1.1.1 })
+    code_by (List (List ℕ) × (List (List ℕ) × (List (List ℕ) × (List ℕ × (FinMap id_cmp (Unit {0}) × (FinMap cell_cmp Value × FinMap link_cmp (Unit {0})))))))
+    (coded× names_code (coded× names_code (coded× names_code (coded× (coded_list coded_ℕ) (coded× ids_code (coded× values_code joined_code))))))
+    (λ r. (r.types, (r.props, (r.links, (r.nexts, (r.ids, (r.values, r.joined)))))))
+    (λ p. record { types = p.0; props = p.1.0; links = p.1.1.0; nexts = p.1.1.1.0; ids = p.1.1.1.1.0; values = p.1.1.1.1.1.0; joined = p.1.1.1.1.1.1 })
     (λ _. refl)
 
 -- the store without contents
 abbrev pub no_rows : RowsValue
-no_rows = record { types = []; props = []; nexts = []; ids = empty; values = empty }
+no_rows = record { types = []; props = []; links = []; nexts = []; ids = empty; values = empty; joined = empty }
 
 -- one place further, where there is a place
 abbrev pub one_further : Option ℕ → Option ℕ
@@ -132,11 +140,16 @@ is_drawn nexts id = nat_lt id.local (next_of nexts id.kind)
 abbrev pub is_cell : RowsValue → Cell × Value → Bool
 is_cell rows e = is_some (get rows.ids e.0.0) && is_listed rows.props e.0.1 && is_value e.1 && nat_le (text_length e.1) LONGEST_TEXT
 
+-- a link between entities that are there, under a listed name
+abbrev pub is_join : RowsValue → LinkKey → Bool
+is_join rows link = is_some (get rows.ids link.0) && is_some (get rows.ids link.1.1) && is_listed rows.links link.1.0
+
 -- Rows are sound: names are distinct and within the limits; each type has a next number; each entity was drawn; each
--- property is one of an entity that is there.
+-- property is one of an entity that is there, and each link joins two that are.
 abbrev pub is_sound : RowsValue → Bool
 is_sound rows =
-    are_names rows.types && are_names rows.props
+    are_names rows.types && are_names rows.props && are_names rows.links
     && (length rows.nexts == length rows.types) && list_all (λ next. nat_le next MOST_LOCALS) rows.nexts
     && list_all (λ e. is_drawn rows.nexts e.0) (entries rows.ids)
     && list_all (is_cell rows) (entries rows.values)
+    && list_all (is_join rows) (keys rows.joined)

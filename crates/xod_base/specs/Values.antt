@@ -1,10 +1,10 @@
 -- What a value is, when two are the same, and by which key bytes an index finds it.
-use Rattle.std.specs.Prelude.{ℕ, suc, ◌+◌, ◌-◌, ◌^◌, Bool, true, false, ◌&&◌, ℤ, pos, negsuc, List, [], ◌∷◌, ◌++◌, map, nat_lt, nat_le, nat_eq, if◌then◌else◌}
-use Rattle.std.specs.List.{list_any}
+use Rattle.std.specs.Prelude.{ℕ, suc, ◌+◌, ◌-◌, ◌^◌, Bool, true, false, not, ◌&&◌, ℤ, pos, negsuc, List, [], ◌∷◌, ◌++◌, map, nat_lt, nat_le, nat_eq, if◌then◌else◌}
+use Rattle.std.specs.List.{list_any, starts_with}
 use Rattle.std.specs.Int.{w64, to_be_bytes}
 use Rattle.std.specs.declared.cmp.Ordering.{Ordering}
 use Rattle.std.specs.declared.cmp.Ordering.TheVariants.{Equal}
-use Rattle.std.specs.Ordering.{is_eq, nat_cmp, int_cmp, int_eq, bool_cmp, ordering_then}
+use Rattle.std.specs.Ordering.{is_eq, is_gt, nat_cmp, int_cmp, int_eq, bool_cmp, ordering_then}
 use Rattle.std.specs.Cmp.Lexicographic.{slice_cmp, pointwise}
 use Rattle.xod_base.specs.declared.value.Value.{Value}
 use Rattle.xod_base.specs.declared.value.Value.TheVariants.{Flag, Int, Text}
@@ -44,6 +44,20 @@ keys_of value = key_of value ∷ []
 -- whether a value has a key
 abbrev pub has_key : List ℕ → Value → Bool
 has_key key value = list_any (same_bytes key) (keys_of value)
+
+-- whether a key is neither below the low one nor above the high one
+abbrev pub is_within : List ℕ → List ℕ → List ℕ → Bool
+is_within low high key = not (is_gt (bytes_cmp low key)) && not (is_gt (bytes_cmp key high))
+
+-- whether a value has a key between two keys, both included
+abbrev pub has_key_within : List ℕ → List ℕ → Value → Bool
+has_key_within low high value = list_any (is_within low high) (keys_of value)
+
+-- whether a value is a text that begins with folded bytes, folded itself
+abbrev pub has_front : List ℕ → Value → Bool
+has_front front (Flag flag) = false
+has_front front (Int number) = false
+has_front front (Text text) = starts_with nat_eq (folded text) front
 
 -- whether two values are the same, the case of texts included
 abbrev pub same_value : Value → Value → Bool

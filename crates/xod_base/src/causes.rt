@@ -1,4 +1,6 @@
 //! Why a call was refused, where the reason is the outside or memory.
+ghost use Rattle.std.specs.Prelude.{◌≡◌};
+
 use std::alloc::{AllocError, AllocFailed};
 
 /// A source, a sink or a volume failed. The count of faults of that object rose in the call that answers this.
@@ -25,6 +27,41 @@ pub enum ReadError {
     Damaged(Place),
     /// Memory was refused, and nothing was changed.
     Memory,
+}
+
+/// Why a session stopped, or a shared step was refused.
+#[derive(Clone, Copy, Debug, PartialEq, Eq)]
+pub enum Cause {
+    /// The device failed, and a count of faults rose in this call.
+    Device,
+    /// An earlier write failed, and nothing is written or read any more.
+    Broken,
+    /// The bytes that were read are those of no store.
+    Damaged,
+    /// A next number of a commit or a file is needed, and there is none.
+    Spent,
+    /// Memory was refused.
+    Memory,
+}
+
+impl From<Memory> for ReadError {
+    ghost use Rattle.xod_base.specs.declared.causes.ReadError.{ReadError};
+
+    ghost from_gives = { λ _ error. error ≡ ReadError.Memory };
+
+    fn from(_: Memory) -> Self {
+        ReadError::Memory
+    }
+}
+
+impl From<Memory> for Cause {
+    ghost use Rattle.xod_base.specs.declared.causes.Cause.{Cause};
+
+    ghost from_gives = { λ _ cause. cause ≡ Cause.Memory };
+
+    fn from(_: Memory) -> Self {
+        Cause::Memory
+    }
 }
 
 impl From<AllocError> for Memory {

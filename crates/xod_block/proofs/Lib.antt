@@ -1,10 +1,13 @@
 pub mod AddressLemmas
 pub mod BodyLemmas
 pub mod CallerLemmas
+pub mod Growth
 pub mod Links
+pub mod Longer
 pub mod MapLemmas
 pub mod MapOrder
 pub mod MarkLemmas
+pub mod MoreRecords
 pub mod Numbers
 pub mod Parts
 pub mod Pieces

@@ -104,7 +104,7 @@ children-not_empty below at (child ∷ children) pairs e =
     let j = children-join below at child children pairs e in
     ap (above []) j.whole ∙ above-append [] (under (child.0 ∷ []) j.first) j.others (above-nothing child.0 j.first) (children-not_empty below at children j.others j.others_is)
 
-rise-parts : (a b : Link) (links : List Link) → rise (a ∷ b ∷ links) ≡ true → (a.0 < b.0) × (rise (b ∷ links) ≡ true)
+pub rise-parts : (a b : Link) (links : List Link) → rise (a ∷ b ∷ links) ≡ true → (a.0 < b.0) × (rise (b ∷ links) ≡ true)
 rise-parts a b links e = let h = and_parts (ltb a.0 b.0) (rise (b ∷ links)) e in (ltb-true _ _ h.0, h.1)
 
 -- children under greater bytes come later
@@ -116,7 +116,7 @@ children-later below at before (child ∷ children) pairs b x le up e =
     let j = children-join below at child children pairs e in
     ap (above (b ∷ x)) j.whole ∙ above-append (b ∷ x) (under (child.0 ∷ []) j.first) j.others (above-byte b child.0 x j.first lt) (children-later below at child children j.others b x (omega (arith, lt)) h.1 j.others_is)
 
-rise-rest : (a : Link) (links : List Link) → rise (a ∷ links) ≡ true → rise links ≡ true
+pub rise-rest : (a : Link) (links : List Link) → rise (a ∷ links) ≡ true → rise links ≡ true
 rise-rest a [] e = refl
 rise-rest a (b ∷ links) e = (rise-parts a b links e).1
 
@@ -134,7 +134,7 @@ own-rises : (value : Option (List ℕ)) (pairs : Pairs) → above [] pairs ≡ t
 own-rises None pairs later up = up
 own-rises (Some value) pairs later up = and_from (above [] pairs) (rising_keys pairs) later up
 
-opened : (o : Option Pairs) (key : List ℕ) (value : Option (List ℕ)) (pairs : Pairs) → option_map (λ ps. under key (own_pair value ++ ps)) o ≡ Some pairs → (ps : Pairs) × (o ≡ Some ps) × (pairs ≡ under key (own_pair value ++ ps))
+pub opened : (o : Option Pairs) (key : List ℕ) (value : Option (List ℕ)) (pairs : Pairs) → option_map (λ ps. under key (own_pair value ++ ps)) o ≡ Some pairs → (ps : Pairs) × (o ≡ Some ps) × (pairs ≡ under key (own_pair value ++ ps))
 opened None key value pairs e = absurd (cc e)
 opened (Some ps) key value pairs e = (ps, refl, cc e)
 

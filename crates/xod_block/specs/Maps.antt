@@ -1,5 +1,5 @@
 -- The map that a leaf or a node stands for, together with the records that it names.
-use Rattle.std.specs.Prelude.{ℕ, zero, suc, nat_lt, if◌then◌else◌, List, [], ◌∷◌, ◌++◌, map, Option, Some, None, IfSome, IsTrue}
+use Rattle.std.specs.Prelude.{◌≡◌, ◌≤◌, ℕ, zero, suc, nat_lt, if◌then◌else◌, List, [], ◌∷◌, ◌++◌, map, Option, Some, None, IfSome, IsTrue}
 use Rattle.std.specs.Option.{option_map}
 use Rattle.xod_block.specs.Addresses.{number_of}
 use Rattle.xod_block.specs.Records.{Link, RecordValue, Leaf, Node, Root, rise}
@@ -64,3 +64,7 @@ map_within records (suc depth) at = pairs_of (map_within records depth) at (reco
 -- the map at an address, since addresses fall on each way down; none where a place that is reached has no whole leaf or node
 unfoldable pub map_at : RecordsAt → ℕ → Option Pairs
 map_at records at = map_within records (suc at) at
+
+-- each record that stood up to an address stands there still, and more may have come
+abbrev pub OnlyMore : RecordsAt → RecordsAt → ℕ → Type 0
+OnlyMore old new at = (below : ℕ) (item : RecordValue) → below ≤ at → old below ≡ Some item → new below ≡ Some item

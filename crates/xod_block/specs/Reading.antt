@@ -89,3 +89,7 @@ record_and_rest bytes = do
 -- the record that bytes begin with, and its length
 unfoldable pub record_at : List ℕ → Option (RecordValue × ℕ)
 record_at bytes = option_map (λ found. (found.0, length bytes - length found.1)) (record_and_rest bytes)
+
+-- that record alone
+abbrev pub record_in : List ℕ → Option RecordValue
+record_in bytes = option_map (λ found. found.0) (record_at bytes)

@@ -5,7 +5,7 @@ use Rattle.std.specs.Option.{option_map}
 use Rattle.std.specs.Int.{w16, w64}
 use Rattle.std.proofs.lemmas.Bool.{and_parts}
 use Rattle.std.proofs.lemmas.Option.{cond_some}
-use Rattle.xod_block.specs.Bodies.{body_records}
+use Rattle.xod_block.specs.Bodies.{Bodies, records_of}
 use Rattle.xod_block.specs.Maps.{HasRisingChildren, RisesEverywhere}
 use Rattle.xod_block.specs.Records.{RecordValue, Leaf, Node, Root, rise, least_children}
 use Rattle.xod_block.specs.Reading.{◌>>=◌, byte_at, number_at, part_at, own_at, links_at, leaf_at, node_at, root_at, are_children, are_trees, record_and_rest, record_at}
@@ -86,9 +86,5 @@ pub record_at-rises : (bytes : List ℕ) → IfSome (option_map (λ found. found
 unfolding record_at
 record_at-rises bytes = if_read (λ rest. length bytes - length rest) (record_and_rest bytes) (record-rises bytes)
 
-either : (b : Bool) (o : Option RecordValue) → IfSome o HasRisingChildren → IfSome (cond b o None) HasRisingChildren
-either true o rises = rises
-either false o rises = tt
-
-pub body_records-rises : (file : ℕ) (body : List ℕ) → RisesEverywhere (body_records file body)
-body_records-rises file body number = either (eqb (number / 2 ^ 64) file) (option_map (λ found. found.0) (record_at (drop (number % 2 ^ 64) body))) (record_at-rises (drop (number % 2 ^ 64) body))
+pub records_of-rises : (bodies : Bodies) → RisesEverywhere (records_of bodies)
+records_of-rises bodies number = record_at-rises (drop (number % 2 ^ 64) (bodies (number / 2 ^ 64)))

@@ -1,14 +1,15 @@
 //! Laws of the definitions in `specs/`.
 //!
 //! Each is a function that does nothing and ensures the law, so that a reader finds it among the contracts.
-ghost use Rattle.std.specs.Prelude.{◌≡◌, ◌<◌, ◌≤◌, ◌↔◌, ◌^◌, ◌++◌, List, [], ℕ, Some, true};
-ghost use Rattle.xod_block.specs.Maps.{RecordsAt, RisesEverywhere, Pairs, map_at, pairs_of};
+ghost use Rattle.std.specs.Prelude.{◌≡◌, ◌<◌, ◌≤◌, ◌↔◌, ◌+◌, ◌*◌, ◌^◌, ◌++◌, length, List, [], ℕ, Some, IsSome, true};
+ghost use Rattle.xod_block.specs.Maps.{RecordsAt, RisesEverywhere, OnlyMore, Pairs, map_at, pairs_of};
 ghost use Rattle.std.specs.Ordering.{nat_cmp};
 ghost use Rattle.std.specs.Cmp.Lexicographic.{slice_cmp};
 ghost use Rattle.std.specs.FinMap.{is_sorted};
 ghost use Rattle.xod_block.specs.Addresses.{IsBefore, number_of};
 ghost use Rattle.xod_block.specs.declared.address.Address.{Address};
 ghost use Rattle.xod_block.specs.declared.end_mark.EndMark.{EndMark};
+ghost use Rattle.xod_block.specs.Bodies.{Bodies, records_of, appended, with_block, HaveGrown};
 ghost use Rattle.xod_block.specs.Marks.{mark_bytes, mark_of};
 ghost use Rattle.xod_block.specs.Records.{RecordValue, Fits, spelling};
 
@@ -41,6 +42,32 @@ pub fn keys_of_a_map_rise()
 pub fn later_records_change_no_map()
     ensures { (old new : RecordsAt) (at : ℕ) → ((below : ℕ) → below ≤ at → old below ≡ new below)
         → map_at old at ≡ map_at new at }
+{}
+
+/// A map stays where each record that stood stays. More bytes may bring records to places that had none.
+pub fn more_records_change_no_map()
+    ensures { (old new : RecordsAt) (at : ℕ) → OnlyMore old new at → IsSome (map_at old at)
+        → map_at new at ≡ map_at old at }
+{}
+
+/// The child bytes of each node in bodies rise, whatever their bytes are.
+pub fn children_of_bodies_rise()
+    ensures { (bodies : Bodies) → RisesEverywhere (records_of bodies) }
+{}
+
+/// Each record of bodies stays where they grow at their ends. So do their maps, by the law above.
+pub fn growing_bodies_keep_records()
+    ensures { (old new : Bodies) (at : ℕ) → HaveGrown old new
+        → OnlyMore (records_of old) (records_of new) at }
+{}
+
+/// A block that was put at the end of a body is read there as it was before: each record that it had, together with
+/// those of the bodies, is one of the longer bodies.
+pub fn an_appended_block_is_read()
+    ensures { (bodies : Bodies) (file : ℕ) (block : List ℕ) (at : ℕ)
+        → length (bodies file) + length block ≤ 2 ^ 64
+        → OnlyMore (with_block (file * 2 ^ 64 + length (bodies file)) block (records_of bodies))
+        (records_of (appended bodies file block)) at }
 {}
 
 /// Addresses are in the order of their numbers.

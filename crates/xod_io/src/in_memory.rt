@@ -2,7 +2,7 @@
 //!
 //! Tests hand them to whatever reads or writes, and learn from them what was read, what was written and how often a
 //! call failed. The words for what they hold stand in `specs/InMemory.antt`.
-ghost use Rattle.std.specs.Prelude.{◌≡◌, ◌↔◌, ◌+◌, ◌≤◌, ◌++◌, ℕ, [], min, length, take, IfOk, OnErr, IsErr, is_ok, Some};
+ghost use Rattle.std.specs.Prelude.{◌≡◌, ◌↔◌, ◌+◌, ◌≤◌, ◌++◌, ℕ, [], min, length, take, IfOk, OnOk, OnErr, IsErr, is_ok, Some};
 ghost use Rattle.std.specs.Io.{ReadsAtMost};
 ghost use Rattle.std.specs.Io.KnownBytes.{ReadConsumes};
 ghost use Rattle.xod_base.specs.Causes.{HasCause};
@@ -88,6 +88,7 @@ impl Source for MemorySource {
         ensures bytes { ReadConsumes (Some (bytes_left self.old)) (Some (bytes_left self.new))
             result out.new }
         ensures cause { HasCause self.old.plan.faults self.new.plan.faults result }
+        ensures no_fault_at_ok { OnOk result (self.new.plan.faults ≡ self.old.plan.faults) }
         ensures failed_exactly_where_listed { IsErr result ↔ FailsNext self.old.plan }
         ensures counted { self.new.plan ≡ after_call self.old.plan (is_ok result) }
         ensures as_many_as_there_are { IfOk result
@@ -145,6 +146,7 @@ impl Sink for MemorySink {
         ensures bytes { Writes bytes.now (Some (bytes_written self.old))
             (Some (bytes_written self.new)) result }
         ensures cause { HasCause self.old.plan.faults self.new.plan.faults result }
+        ensures no_fault_at_ok { OnOk result (self.new.plan.faults ≡ self.old.plan.faults) }
         ensures failed_where_listed { FailsNext self.old.plan → IsErr result }
         ensures counted { self.new.plan ≡ after_call self.old.plan (is_ok result) }
         ensures all { IfOk result (λ count. count ≡ length bytes.now) }

@@ -16,6 +16,3 @@ pub use in_memory::{MemorySink, MemorySource};
 pub use outside::{Sink, Source};
 pub use standard::{StdSink, StdSource};
 pub use whole::{TakeError, read_all, write_all};
-
-#[cfg(test)]
-mod tests;

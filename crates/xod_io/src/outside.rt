@@ -2,7 +2,7 @@
 //!
 //! Code that reads or writes is written over these two traits, so that it is proved for memory and for the standard
 //! streams at once. A contract speaks of the bytes only where the object tells them.
-ghost use Rattle.std.specs.Prelude.{◌≡◌, ℕ, List, Option};
+ghost use Rattle.std.specs.Prelude.{◌≡◌, ℕ, List, Option, OnOk};
 ghost use Rattle.std.specs.Io.{ReadsAtMost};
 ghost use Rattle.std.specs.Io.KnownBytes.{ReadConsumes};
 ghost use Rattle.xod_base.specs.Causes.{HasCause};
@@ -28,6 +28,7 @@ pub trait Source {
         ensures within { ReadsAtMost result out.new }
         ensures bytes { ReadConsumes (left self.old) (left self.new) result out.new }
         ensures cause { HasCause (faults self.old) (faults self.new) result }
+        ensures no_fault_at_ok { OnOk result (faults self.new ≡ faults self.old) }
         ensures tells_as_before { TellsAsBefore (left self.old) (left self.new) }
         ensures same_references { refs self.new ≡ refs self.old };
 }
@@ -47,6 +48,7 @@ pub trait Sink {
     fn write(&mut self, bytes: &[u8]) -> Result<usize, Failed>
         ensures bytes { Writes bytes.now (written self.old) (written self.new) result }
         ensures cause { HasCause (faults self.old) (faults self.new) result }
+        ensures no_fault_at_ok { OnOk result (faults self.new ≡ faults self.old) }
         ensures tells_as_before { TellsAsBefore (written self.old) (written self.new) }
         ensures same_references { refs self.new ≡ refs self.old };
 }

@@ -75,6 +75,8 @@ fn read_onto<S: Source>(
     ensures never_too_long { result ≢ Err TakeError.TooLong }
     ensures failed_only_after_a_fault { result ≡ Err TakeError.Failed
         → Rose (S.faults source.old) (S.faults source.new) }
+    ensures faults_rise_only_at_failed { result ≢ Err TakeError.Failed
+        → S.faults source.new ≡ S.faults source.old }
     ensures loses_a_piece_at_most { LosesAtMost (length piece.old) (S.left source.old)
         (S.left source.new) }
     ensures faults_never_fall { S.faults source.old ≤ S.faults source.new }
@@ -96,6 +98,8 @@ pub fn read_all<S: Source>(alloc: Global, source: &mut S, limit: usize) -> Resul
         → IsMoreThan limit (S.left source.old) }
     ensures failed_only_after_a_fault { result ≡ Err TakeError.Failed
         → Rose (S.faults source.old) (S.faults source.new) }
+    ensures faults_rise_only_at_failed { result ≢ Err TakeError.Failed
+        → S.faults source.new ≡ S.faults source.old }
     ensures loses_one_past_the_limit_at_most { LosesAtMost (limit + 1) (S.left source.old)
         (S.left source.new) }
     ensures faults_never_fall { S.faults source.old ≤ S.faults source.new }
@@ -121,6 +125,7 @@ pub fn write_all<K: Sink>(sink: &mut K, bytes: &[u8]) -> Result<(), Failed>
     ensures all { OnOk result (Appends (K.written sink.old) (K.written sink.new) bytes.now) }
     ensures a_front { GainsFront bytes.now (K.written sink.old) (K.written sink.new) }
     ensures cause { HasCause (K.faults sink.old) (K.faults sink.new) result }
+    ensures no_fault_at_ok { OnOk result (K.faults sink.new ≡ K.faults sink.old) }
     ensures tells_as_before { TellsAsBefore (K.written sink.old) (K.written sink.new) }
     ensures same_references { K.refs sink.new ≡ K.refs sink.old }
 {

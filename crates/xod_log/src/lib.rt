@@ -10,8 +10,6 @@ mod laws;
 mod log;
 mod mark;
 mod pair;
-#[cfg(test)]
-mod tests;
 
 pub use error::LogError;
 pub use laws::{

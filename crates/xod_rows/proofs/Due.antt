@@ -1,11 +1,11 @@
 -- What an input's bytes are answered with, by the causes of the endings, is what is printed for them.
 use Rattle.std.proofs.Common.{◌≡◌, ℕ, ◌+◌, true, length, Result, Ok, Err, refl, sym, ap, ◌∙◌, if◌then◌else◌}
-use Rattle.xod_base.specs.Rows.{no_rows}
-use Rattle.xod_shell.specs.declared.lang.script.Script.{Script}
-use Rattle.xod_shell.specs.declared.top.ending.Ending.{Ending}
-use Rattle.xod_shell.specs.declared.top.ending.Ending.TheVariants.{Usage, SourceFailed, TooLong, BadLine, Untaken, NoMemory, Printed}
-use Rattle.xod_shell.specs.Run.{World, items_of, opening, order_played, played, finish, is_finished}
-use Rattle.xod_shell.specs.Endings.{IsPlayed, IsAnswered, text_of, bad_line_text}
+use Rattle.xod_first_base.specs.Rows.{no_rows}
+use Rattle.xod_first_shell.specs.declared.lang.script.Script.{Script}
+use Rattle.xod_first_shell.specs.declared.top.ending.Ending.{Ending}
+use Rattle.xod_first_shell.specs.declared.top.ending.Ending.TheVariants.{Usage, SourceFailed, TooLong, BadLine, Untaken, NoMemory, Printed}
+use Rattle.xod_first_shell.specs.Run.{World, items_of, opening, order_played, played, finish, is_finished}
+use Rattle.xod_first_shell.specs.Endings.{IsPlayed, IsAnswered, text_of, bad_line_text}
 use Rattle.xod_rows.specs.Worked.{printed_of, printed_order}
 
 finished : (past : ℕ) (r : Result World ℕ) (world : World) → r ≡ Ok world → is_finished world ≡ true → finish past r ≡ Ok world

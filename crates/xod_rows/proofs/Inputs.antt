@@ -3,18 +3,18 @@ use Rattle.std.proofs.Common.{◌≡◌, List, [], ◌∷◌, Some, Ok, Err, cod
 use Rattle.std.specs.Prelude.{pos}
 use lib.Utf8.{encode}
 use Rattle.std.specs.Str.{is_utf8, chars}
-use Rattle.xod_base.specs.declared.query.Mode.TheVariants.{Ordinary}
-use Rattle.xod_base.specs.declared.query.Query.TheVariants.{Find}
-use Rattle.xod_base.specs.declared.value.Value.TheVariants.{Int}
-use Rattle.xod_shell.specs.declared.lang.script.Ent.TheVariants.{Var}
-use Rattle.xod_shell.specs.declared.lang.script.Form.TheVariants as form
-use Rattle.xod_shell.specs.declared.lang.script.SessionScript.{SessionScript}
-use Rattle.xod_shell.specs.declared.lang.script.Turned.TheVariants as turned
-use Rattle.xod_shell.specs.declared.lang.script.Item.TheVariants.{Turn}
-use Rattle.xod_shell.specs.declared.lang.script.OrderItem.{OrderItem}
-use Rattle.xod_shell.specs.declared.lang.script.Script.{Script}
-use Rattle.xod_shell.specs.Words.{word_at, is_ended, is_name_word, is_session_word, variable_of, decimal_of, unsigned_of, negated_of, integer_of}
-use Rattle.xod_shell.specs.Grammar.{session_line, new_line, set_line, all_line, find_line, query_line, turned_of, turn_line, keyword_line, unblanked_line, line_of, with_line, script_of}
+use Rattle.xod_first_base.specs.declared.query.Mode.TheVariants.{Ordinary}
+use Rattle.xod_first_base.specs.declared.query.Query.TheVariants.{Find}
+use Rattle.xod_first_base.specs.declared.value.Value.TheVariants.{Int}
+use Rattle.xod_first_shell.specs.declared.lang.script.Ent.TheVariants.{Var}
+use Rattle.xod_first_shell.specs.declared.lang.script.Form.TheVariants as form
+use Rattle.xod_first_shell.specs.declared.lang.script.SessionScript.{SessionScript}
+use Rattle.xod_first_shell.specs.declared.lang.script.Turned.TheVariants as turned
+use Rattle.xod_first_shell.specs.declared.lang.script.Item.TheVariants.{Turn}
+use Rattle.xod_first_shell.specs.declared.lang.script.OrderItem.{OrderItem}
+use Rattle.xod_first_shell.specs.declared.lang.script.Script.{Script}
+use Rattle.xod_first_shell.specs.Words.{word_at, is_ended, is_name_word, is_session_word, variable_of, decimal_of, unsigned_of, negated_of, integer_of}
+use Rattle.xod_first_shell.specs.Grammar.{session_line, new_line, set_line, all_line, find_line, query_line, turned_of, turn_line, keyword_line, unblanked_line, line_of, with_line, script_of}
 use Rattle.xod_rows.specs.Worked.{whole, without_end, with_frob}
 
 -- one name to unfold where the grammar computes on the bytes of an input

@@ -5,10 +5,10 @@ use Rattle.std.specs.declared.cmp.Ordering.{Ordering}
 use Rattle.std.specs.Cmp.{IsTotalOrder}
 use Rattle.std.specs.Cmp.Lexicographic.{on_texts}
 use Rattle.std.specs.FinMap.{FinMap, get, insert, entries, empty, get-empty, get-insert, entries-insert, len-entries, len-empty, put}
-use Rattle.xod_base.specs.declared.value.EntityId.{EntityId}
-use Rattle.xod_base.specs.declared.value.Value.{Value}
-use Rattle.xod_base.specs.declared.value.Value.TheVariants.{Int}
-use Rattle.xod_base.specs.Rows.{Cell, id_cmp, cell_cmp, numbers_of_id, numbers_of_cell}
+use Rattle.xod_first_base.specs.declared.value.EntityId.{EntityId}
+use Rattle.xod_first_base.specs.declared.value.Value.{Value}
+use Rattle.xod_first_base.specs.declared.value.Value.TheVariants.{Int}
+use Rattle.xod_first_base.specs.Rows.{Cell, id_cmp, cell_cmp, numbers_of_id, numbers_of_cell}
 
 id_total : IsTotalOrder id_cmp
 id_total = on_texts numbers_of_id

@@ -1,24 +1,24 @@
 -- How the whole worked input is played.
 use Rattle.std.proofs.Common.{◌≡◌, false, List, [], ◌∷◌, Some, None, Result, Ok, codes, refl, ap, ◌∙◌}
-use Rattle.xod_base.specs.declared.value.EntityId.{EntityId}
-use Rattle.xod_base.specs.declared.query.Mode.TheVariants.{Ordinary}
-use Rattle.xod_base.specs.declared.query.Query.TheVariants.{Find}
-use Rattle.xod_base.specs.declared.query.Act.TheVariants as act
-use Rattle.xod_base.specs.declared.answer.ActAnswer.TheVariants.{Made, Changed}
-use Rattle.xod_base.specs.declared.answer.FlushAnswer.TheVariants.{Committed}
-use Rattle.xod_base.specs.declared.answer.StmtError.{StmtError}
-use Rattle.xod_base.specs.declared.answer.Reply.TheVariants as reply
-use Rattle.xod_base.specs.Rows.{RowsValue, no_rows}
-use Rattle.xod_base.specs.Evaluation.{answer_of}
-use Rattle.xod_model.specs.declared.change.RowChange.{RowChange}
-use Rattle.xod_model.specs.declared.change.RowChange.TheVariants.{AddEntity, Prop}
-use Rattle.xod_model.specs.Changes.{expansion_of}
-use Rattle.xod_shell.specs.declared.lang.script.Ent.TheVariants.{Var}
-use Rattle.xod_shell.specs.declared.lang.script.Form.TheVariants as form
-use Rattle.xod_shell.specs.declared.lang.script.Statement.{Statement}
-use Rattle.xod_shell.specs.declared.lang.script.Turned.TheVariants as turned
-use Rattle.xod_shell.specs.declared.lang.script.Item.TheVariants.{Turn}
-use Rattle.xod_shell.specs.Run.{OpenTxn, DialogueState, World, replied, txn_acted, act_reply, act_outcome, answered, readied, next_taken, in_front, world_of, item_played, played, finish, opening, items_of, order_played, turn_taken}
+use Rattle.xod_first_base.specs.declared.value.EntityId.{EntityId}
+use Rattle.xod_first_base.specs.declared.query.Mode.TheVariants.{Ordinary}
+use Rattle.xod_first_base.specs.declared.query.Query.TheVariants.{Find}
+use Rattle.xod_first_base.specs.declared.query.Act.TheVariants as act
+use Rattle.xod_first_base.specs.declared.answer.ActAnswer.TheVariants.{Made, Changed}
+use Rattle.xod_first_base.specs.declared.answer.FlushAnswer.TheVariants.{Committed}
+use Rattle.xod_first_base.specs.declared.answer.StmtError.{StmtError}
+use Rattle.xod_first_base.specs.declared.answer.Reply.TheVariants as reply
+use Rattle.xod_first_base.specs.Rows.{RowsValue, no_rows}
+use Rattle.xod_first_base.specs.Evaluation.{answer_of}
+use Rattle.xod_first_model.specs.declared.change.RowChange.{RowChange}
+use Rattle.xod_first_model.specs.declared.change.RowChange.TheVariants.{AddEntity, Prop}
+use Rattle.xod_first_model.specs.Changes.{expansion_of}
+use Rattle.xod_first_shell.specs.declared.lang.script.Ent.TheVariants.{Var}
+use Rattle.xod_first_shell.specs.declared.lang.script.Form.TheVariants as form
+use Rattle.xod_first_shell.specs.declared.lang.script.Statement.{Statement}
+use Rattle.xod_first_shell.specs.declared.lang.script.Turned.TheVariants as turned
+use Rattle.xod_first_shell.specs.declared.lang.script.Item.TheVariants.{Turn}
+use Rattle.xod_first_shell.specs.Run.{OpenTxn, DialogueState, World, replied, txn_acted, act_reply, act_outcome, answered, readied, next_taken, in_front, world_of, item_played, played, finish, opening, items_of, order_played, turn_taken}
 use Rattle.xod_rows.proofs.Inputs.{the_session, order_before, the_end}
 use Rattle.xod_rows.proofs.OneEntry.{the_id, the_value, the_ids, the_values, id_is_there, ids_are, cell_was_absent, cell_is_set}
 

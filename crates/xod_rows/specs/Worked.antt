@@ -1,11 +1,11 @@
 -- What is printed for the bytes of an input, and the inputs that are worked by hand.
 use Rattle.std.specs.Prelude.{ℕ, List, Result, Ok, Err, codes}
-use Rattle.xod_base.specs.Rows.{no_rows}
-use Rattle.xod_shell.specs.declared.lang.script.Script.{Script}
-use Rattle.xod_shell.specs.Grammar.{script_of}
-use Rattle.xod_shell.specs.Run.{World, items_of, opening, order_played}
-use Rattle.xod_shell.specs.Texts.{transcript_of}
-use Rattle.xod_shell.specs.Endings.{bad_line_text, untaken_text}
+use Rattle.xod_first_base.specs.Rows.{no_rows}
+use Rattle.xod_first_shell.specs.declared.lang.script.Script.{Script}
+use Rattle.xod_first_shell.specs.Grammar.{script_of}
+use Rattle.xod_first_shell.specs.Run.{World, items_of, opening, order_played}
+use Rattle.xod_first_shell.specs.Texts.{transcript_of}
+use Rattle.xod_first_shell.specs.Endings.{bad_line_text, untaken_text}
 
 -- an order that was played: the transcript, or the item that can't be taken
 abbrev pub printed_order : Script → Result World ℕ → List ℕ

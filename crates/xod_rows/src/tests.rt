@@ -1,13 +1,17 @@
 //! How a test runs the top call, over a source and a sink in memory.
 mod answers;
 mod faults;
+mod language;
 mod lines;
 mod orders;
+mod outside;
+mod plain_rows;
+mod values;
 
 use std::alloc::Global;
 use std::test::Fail;
-use xod_io::{MemorySink, MemorySource};
-use xod_shell::{Outcome, xod_quiet};
+use xod_first_io::{MemorySink, MemorySource};
+use xod_first_shell::{Outcome, xod_quiet};
 
 /// The status of a run of `replay` over an input, and what it wrote.
 #[derive(Drop)]

@@ -1,10 +1,10 @@
 //! The worked inputs, told by the definitions alone: each clause is an equation on the bytes of one input and what is
 //! printed for them. Nothing here runs; a definition that was wrong about one of these inputs would have no proof.
 ghost use Rattle.std.specs.Prelude.{◌≡◌, ℕ, List, codes};
-ghost use Rattle.xod_shell.specs.declared.top.ending.Ending.{Ending};
-ghost use Rattle.xod_shell.specs.declared.top.ending.Ending.TheVariants.{NoMemory};
-ghost use Rattle.xod_shell.specs.Endings.{IsAnswered, text_of};
-ghost use Rattle.xod_shell.specs.Grammar.{script_of};
+ghost use Rattle.xod_first_shell.specs.declared.top.ending.Ending.{Ending};
+ghost use Rattle.xod_first_shell.specs.declared.top.ending.Ending.TheVariants.{NoMemory};
+ghost use Rattle.xod_first_shell.specs.Endings.{IsAnswered, text_of};
+ghost use Rattle.xod_first_shell.specs.Grammar.{script_of};
 ghost use Rattle.xod_rows.specs.Worked.{printed_for, whole, with_frob, without_end};
 
 /// One entity with a property, asked for and committed: the answers, the totals and the order.

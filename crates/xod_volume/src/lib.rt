@@ -13,8 +13,6 @@ mod piece;
 mod pieces;
 mod plan;
 mod table;
-#[cfg(test)]
-mod tests;
 mod volume;
 mod walk;
 

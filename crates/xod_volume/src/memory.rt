@@ -4,7 +4,7 @@
 //! and its images are read off that record (`specs/Record.antt`): the record is data that a test can look at, through
 //! `crash`. It fails where its plan says so, where a call finds no room in the record, and where a `write_at` would
 //! change bytes that a lease has: such a call changes nothing and is not recorded.
-ghost use Rattle.std.specs.Prelude.{◌≡◌, ◌≤◌, ◌∷◌, ℕ, [], true, IfOk, is_ok, if◌then◌else◌, length};
+ghost use Rattle.std.specs.Prelude.{◌≡◌, ◌≤◌, ◌∷◌, ℕ, [], true, IfOk, IsNone, is_ok, if◌then◌else◌, length};
 ghost use Rattle.std.specs.Arc.{arc_value};
 ghost use Rattle.std.specs.FinMap.{get};
 ghost use Rattle.xod_volume.specs.Files.{Files, no_files};
@@ -27,10 +27,10 @@ use xod_base::{Failed, Listed, Memory};
 #[derive(Drop)]
 pub struct MemoryVolume {
     alloc: Global,
-    pub(crate) disk: Disk,
+    disk: Disk,
     lent: Vec<Listed<u64>>,
     plan: Arc<Plan>,
-    pub(crate) faults: u64,
+    faults: u64,
 }
 
 impl MemoryVolume {
@@ -88,6 +88,23 @@ impl MemoryVolume {
         ensures { result ≡ ⟦<MemoryVolume as Volume>⟧.moment self.now }
     {
         self.disk.moment()
+    }
+
+    /// How many calls have failed, those of the leases that were taken back among them.
+    pub fn faults(&self) -> u64
+        ensures { result ≡ ⟦<MemoryVolume as Volume>⟧.faults self.now }
+    {
+        self.faults
+    }
+
+    /// How many pieces a lease of a file would share, without the bytes that would become one more: 0 where it is absent.
+    pub fn pieces(&self, file: u64) -> usize
+        ensures { IsNone (get (⟦<MemoryVolume as Volume>⟧.files self.now) file) → result ≡ 0 }
+    {
+        match self.disk.table.body(file) {
+            Some(body) => body.shared.list.len(),
+            None => 0,
+        }
     }
 
     /// A volume with what a crash at a moment leaves, by a choice: a new one, of which no call is planned to fail.

@@ -2,8 +2,8 @@
 use super::ran_with;
 use std::alloc::Global;
 use std::test::Fail;
-use xod_io::{MemorySink, MemorySource};
-use xod_shell::{Outcome, xod_quiet};
+use xod_first_io::{MemorySink, MemorySource};
+use xod_first_shell::{Outcome, xod_quiet};
 
 const INPUT: &[u8] =
     b"session a\nbegin\nnew T as $x\nset $x p 3\nquery find T p 3\ncommit\norder\nturn a begin\nturn a flush\nturn a end\n";

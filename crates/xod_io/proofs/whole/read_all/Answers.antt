@@ -6,7 +6,7 @@ use Rattle.xod_io.proofs.whole.read_all.Goals as goal
 pub loop-taken-init : goal.loop-taken-init
 loop-taken-init g c =
     let empty = c.new-taken.ensures in
-    (rw empty (omega arith), rw empty (Consumes-nil _), omega arith, refl, refl, c.in_ok-piece.ensures)
+    (rw empty (omega arith), rw empty (Consumes-nil _), refl, refl, refl, c.in_ok-piece.ensures)
 
 pub returns-in_err-count-clause-loses_one_past_the_limit_at_most :
     goal.returns-in_err-count-clause-loses_one_past_the_limit_at_most
@@ -50,4 +50,4 @@ loop-taken-preserved g c =
     let i = c.loop-taken.invariant in
     let o = c.in_ok-count.ensures in
     let lost = Consumes-moved _ _ _ _ _ _ i.1 o.moves in
-    (omega arith, lost, omega arith, o.tells_as_before ∙ i.3, o.same_references ∙ i.4, i.5)
+    (omega arith, lost, o.faults_rise_only_at_failed (λ e. cc) ∙ i.2, o.tells_as_before ∙ i.3, o.same_references ∙ i.4, i.5)

@@ -9,7 +9,7 @@ abbrev pub invariant-loop-taken : goal.invariant-loop-taken
 invariant-loop-taken g l =
     (length l.taken ≤ l.limit)
     × Consumes (g.S.Source.left l.initial.source) (g.S.Source.left l.source) l.taken
-    × (g.S.Source.faults l.initial.source ≤ g.S.Source.faults l.source)
+    × (g.S.Source.faults l.source ≡ g.S.Source.faults l.initial.source)
     × TellsAsBefore (g.S.Source.left l.initial.source) (g.S.Source.left l.source)
     × (g.S.Source.refs l.source ≡ g.S.Source.refs l.initial.source)
     × (vec_len l.piece ≡ 65536)

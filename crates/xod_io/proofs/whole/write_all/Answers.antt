@@ -13,5 +13,4 @@ loop-done-preserved g c =
     let o = c.in_ok-done.ensures in
     let fits = o.bytes.0 in
     let left = c.split_at.ensures.back_len in
-    let later = o.cause.later in
-    (omega arith, Appends-after _ _ _ _ _ _ _ c.split_at.ensures.back i.1 o.bytes.2, omega arith, o.tells_as_before ∙ i.3, o.same_references ∙ i.4)
+    (omega arith, Appends-after _ _ _ _ _ _ _ c.split_at.ensures.back i.1 o.bytes.2, o.no_fault_at_ok ∙ i.2, o.tells_as_before ∙ i.3, o.same_references ∙ i.4)

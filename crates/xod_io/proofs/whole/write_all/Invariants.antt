@@ -8,7 +8,7 @@ abbrev pub invariant-loop-done : goal.invariant-loop-done
 invariant-loop-done g l =
     (l.done ≤ length l.bytes)
     × Appends (g.K.Sink.written l.initial.sink) (g.K.Sink.written l.sink) (take l.done l.bytes)
-    × (g.K.Sink.faults l.initial.sink ≤ g.K.Sink.faults l.sink)
+    × (g.K.Sink.faults l.sink ≡ g.K.Sink.faults l.initial.sink)
     × TellsAsBefore (g.K.Sink.written l.initial.sink) (g.K.Sink.written l.sink)
     × (g.K.Sink.refs l.sink ≡ g.K.Sink.refs l.initial.sink)
 

@@ -1,6 +1,6 @@
 use Rattle.std.proofs.Common.{[], ◌∷◌, ap, ◌∙◌}
 use Rattle.std.specs.Fmt.{digits}
-use Rattle.xod_shell.specs.Texts.{transcript_of}
+use Rattle.xod_first_shell.specs.Texts.{transcript_of}
 use Rattle.xod_rows.specs.Worked.{printed_for, printed_of, printed_order}
 use Rattle.xod_rows.proofs.Inputs.{whole_is, script_with, order_before, the_end}
 use Rattle.xod_rows.proofs.Played.{the_world, is_played, asked, now_set, made}

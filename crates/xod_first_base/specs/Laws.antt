@@ -1,0 +1,14 @@
+-- What the keys of values are good for.
+use Rattle.std.specs.Prelude.{◌≡◌, ℕ, IsTrue, List, [], ◌++◌}
+use Rattle.xod_first_base.specs.declared.value.Value.{Value}
+use Rattle.xod_first_base.specs.Values.{bytes_cmp, is_value, key_of, value_cmp}
+
+-- the keys of two values stand in the order of the values
+abbrev pub KeysRiseAsValues : Type 0
+KeysRiseAsValues = (v w : Value) → IsTrue (is_value v) → IsTrue (is_value w)
+    → bytes_cmp (key_of v) (key_of w) ≡ value_cmp v w
+
+-- a key at which another one begins is that one, with nothing after it
+abbrev pub EachKeyShowsItsEnd : Type 0
+EachKeyShowsItsEnd = (v w : Value) (more : List ℕ) → IsTrue (is_value v) → IsTrue (is_value w)
+    → key_of v ++ more ≡ key_of w → more ≡ []

@@ -1,0 +1,12 @@
+//! What the keys of values are good for, said once for all values; nothing here runs.
+ghost use Rattle.xod_first_base.specs.Laws.{KeysRiseAsValues, EachKeyShowsItsEnd};
+
+/// A walk over keys in rising order meets the values in rising order.
+pub fn keys_are_in_the_order_of_values()
+    ensures { KeysRiseAsValues }
+{}
+
+/// Where keys stand one behind the other or before other bytes, each shows where it ends.
+pub fn no_key_begins_another()
+    ensures { EachKeyShowsItsEnd }
+{}

@@ -1,0 +1,14 @@
+use Rattle.std.proofs.Common.{◌≡◌, ◌≤◌, ◌+◌, length}
+use Rattle.xod_first_shell.specs.Grammar.{script_of}
+use Rattle.xod_first_shell.specs.Reads.{seen}
+use Rattle.xod_first_shell.proofs.ReadLemmas.{goes_on}
+use Rattle.xod_first_shell.proofs.lang.read.read_lines.Given as goal
+
+abbrev pub invariant-loop-rest : goal.invariant-loop-rest
+invariant-loop-rest l = record {
+  goes_on : goes_on (seen l.reading) l.line l.rest ≡ script_of l.bytes;
+  in_range : l.line + length l.rest ≤ length l.bytes + 1;
+}
+
+abbrev pub decreases-loop-rest : goal.decreases-loop-rest
+decreases-loop-rest l = length l.rest
