@@ -1,0 +1,9 @@
+pub mod CallerLemmas
+pub mod Damaged
+pub mod Fetching
+pub mod Keys
+pub mod Leasts
+pub mod Lists
+pub mod Maps
+pub mod Steps
+pub mod Values

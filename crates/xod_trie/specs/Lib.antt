@@ -1,0 +1,5 @@
+pub mod Branches
+pub mod Damage
+pub mod Least
+pub mod Tries
+pub mod Ways
