@@ -1,0 +1,13 @@
+pub mod CallerLemmas
+pub mod ExpansionLemmas
+pub mod GoneLemmas
+pub mod JournalLemmas
+pub mod KeyLemmas
+pub mod ListLemmas
+pub mod MapLemmas
+pub mod NameLemmas
+pub mod RefusalLemmas
+pub mod SeatLemmas
+pub mod SoundLemmas
+pub mod SpaceLemmas
+pub mod StepLemmas

@@ -1,0 +1,10 @@
+pub mod Begins
+pub mod Books
+pub mod Changes
+pub mod Laws
+pub mod Locals
+pub mod Seats
+pub mod Shows
+pub mod Spaces
+pub mod Standing
+pub mod Txns
