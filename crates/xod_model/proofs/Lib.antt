@@ -1,0 +1,11 @@
+pub mod EntryLemmas
+pub mod GoingLemmas
+pub mod KeyLemmas
+pub mod NameLemmas
+pub mod PlainLemmas
+pub mod PlainTxnLemmas
+pub mod RisingLemmas
+pub mod RowLemmas
+pub mod SortLemmas
+pub mod TestLemmas
+pub mod TxnLemmas

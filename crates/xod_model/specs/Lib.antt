@@ -1,0 +1,11 @@
+pub mod Entries
+pub mod Gone
+pub mod Keys
+pub mod Passing
+pub mod Plain
+pub mod PlainLaw
+pub mod PlainTxns
+pub mod Ranks
+pub mod Refusals
+pub mod Rising
+pub mod Txns
