@@ -1,0 +1,12 @@
+pub mod CallerLemmas
+pub mod Gives
+pub mod NameLemmas
+pub mod NumberLemmas
+pub mod NumbersBack
+pub mod PartsGiven
+pub mod QueriesBack
+pub mod TextLemmas
+pub mod VariableLemmas
+pub mod WordLemmas
+pub mod WordsBack
+pub mod WordsGiven

@@ -1,0 +1,9 @@
+pub mod Drafts
+pub mod Fronts
+pub mod Laws
+pub mod Names
+pub mod Numbers
+pub mod Queries
+pub mod Reads
+pub mod Values
+pub mod Words
