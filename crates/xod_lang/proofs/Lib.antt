@@ -1,0 +1,5 @@
+pub mod CallerLemmas
+pub mod FormsGiven
+pub mod LineLemmas
+pub mod ReadLemmas
+pub mod WellFormedLemmas

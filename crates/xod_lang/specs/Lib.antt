@@ -1,0 +1,10 @@
+pub mod Items
+pub mod Lines
+pub mod Reads
+pub mod Scripts
+pub mod Standings
+pub mod Statements
+pub mod WellFormed
+pub use Rattle.xod_words.specs.Drafts
+pub use Rattle.xod_words.specs.Laws
+pub use Rattle.xod_words.specs.Queries
