@@ -1,0 +1,17 @@
+pub mod Answers
+pub mod Calls
+pub mod Courses
+pub mod Dialogues
+pub mod Fillings
+pub mod Laws
+pub mod Private
+pub mod Scripts
+pub mod Seats
+pub mod Sessions
+pub mod States
+pub mod Steps
+pub mod Transcripts
+pub mod Turns
+pub mod VariableMaps
+pub mod Variables
+pub mod World
