@@ -2,7 +2,7 @@
 use Rattle.std.proofs.Common.{◌≡◌, ◌≢◌, ℕ, Bool, true, false, cond, List, [], ◌∷◌, ◌++◌, map, length, Option, Some, None, Result, Ok, Err, refl, sym, ap, subst, ◌∙◌, eq-eqb}
 use Rattle.std.specs.Prelude.{◌&&◌, ◌||◌, not, is_some, nat_lt, nat_le}
 use Rattle.std.specs.List.{list_all, list_any, filter}
-use Rattle.std.specs.Ordering.{eq_by_cmp, is_eq, is_lt, int_cmp}
+use Rattle.std.specs.Ordering.{eq_by_cmp, is_eq}
 use Rattle.std.specs.Cmp.Lexicographic.{bytes_decides}
 use Rattle.std.specs.Cmp.{tied_itself, int_cmp_total}
 use Rattle.std.specs.FinMap.{FinMap, find, get, entries, keys, remove, is_sorted, get-entries}
@@ -25,7 +25,7 @@ use Rattle.xod_journal.specs.declared.change.RowChange.TheVariants.{AddEntity, R
 use Rattle.xod_journal.specs.Changes.{fits, applied, all_applied, all_fit, has_room, kind_number, same_option, is_listed_name, are_all_named, is_at_end, is_in_use, link_gone, props_gone, links_out_gone, links_in_gone, targets_gone, has_join, link_behind, between, new_expansion, set_expansion, unset_changes, unlink_expansion, expansion_of, has_names}
 use Rattle.xod_journal.proofs.ListLemmas.{both, two, all_filtered}
 use Rattle.xod_journal.proofs.NameLemmas.{same_name}
-use Rattle.xod_journal.proofs.KeyLemmas.{cell_total, cell_same, link_total, link_same, same_id-is, same_id-itself}
+use Rattle.xod_journal.proofs.KeyLemmas.{cell_total, cell_same, link_total, link_same, same_id-is}
 use Rattle.xod_journal.proofs.GoneLemmas.{equal_of, gone, Held, held_all, held_some, held_after, sorted_all, sorted_some, gone_none, gone_others, gone_test, none_left}
 
 -- ---- values

@@ -1,8 +1,6 @@
 -- The orders of ids, of properties and of links.
-use Rattle.std.proofs.Common.{◌≡◌, ◌∙◌, ℕ, zero, suc, Bool, true, false, List, [], ◌∷◌, ◌++◌, map, ap, refl, sym, eqb-true, eq-eqb}
-use Rattle.std.specs.Prelude.{◌&&◌, ◌==◌}
-use Rattle.std.specs.Ordering.{eq_by_cmp}
-use Rattle.std.proofs.lemmas.Bool.{false≢true}
+use Rattle.std.proofs.Common.{◌≡◌, ◌∙◌, ℕ, zero, suc, true, List, [], ◌∷◌, ◌++◌, map, ap, refl, sym, eqb-true, eq-eqb}
+use Rattle.std.specs.Prelude.{◌==◌}
 use Rattle.xod_journal.proofs.ListLemmas.{both, two}
 use Rattle.std.specs.Cmp.{IsTotalOrder}
 use Rattle.std.specs.Cmp.Lexicographic.{on_texts}

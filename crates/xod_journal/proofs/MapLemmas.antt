@@ -1,15 +1,12 @@
 -- Maps by their entries, and maps from which entries were taken.
-use Rattle.std.proofs.Common.{◌≡◌, ◌≢◌, ℕ, Bool, true, false, cond, T, List, [], ◌∷◌, map, length, Option, Some, None, refl, sym, ap, subst, ◌∙◌}
-use Rattle.std.specs.Prelude.{not, ◌&&◌, ◌||◌, is_some}
-use Rattle.std.specs.List.{filter, list_any, list_all}
+use Rattle.std.proofs.Common.{◌≡◌, Bool, true, false, cond, T, List, [], length, None, refl, sym, ap, subst, ◌∙◌}
+use Rattle.std.specs.Prelude.{not}
 use Rattle.std.specs.declared.cmp.Ordering.{Ordering}
-use Rattle.std.specs.declared.cmp.Ordering.TheVariants.{Less, Equal, Greater}
-use Rattle.std.proofs.lemmas.Bool.{false≢true}
-use Rattle.std.specs.Ordering.{eq_by_cmp, is_eq, is_lt}
-use Rattle.std.specs.Cmp.{IsTotalOrder, tied_itself, alike_right, eq_by_cmp_equiv}
-use Rattle.std.specs.FinMap.{FinMap, IsAntisymmetric, empty, entries, find, get, keys, from_sorted, is_sorted, entries_sorted, same_entries_map, empty_of_len, len-entries, entries-from_sorted, get-from_sorted, get-entries, get-remove, contains_key-keys, same_map}
+use Rattle.std.specs.Ordering.{eq_by_cmp, is_eq}
+use Rattle.std.specs.Cmp.{IsTotalOrder, alike_right, eq_by_cmp_equiv}
+use Rattle.std.specs.FinMap.{FinMap, IsAntisymmetric, empty, entries, find, from_sorted, is_sorted, entries_sorted, same_entries_map, empty_of_len, len-entries, entries-from_sorted, get-from_sorted, get-remove, same_map}
 use Rattle.std.specs.FinMap as maps
-use Rattle.std.specs.FinMap.Entries.{where_key, below_all, is_sorted-where_key, find-where_key}
+use Rattle.std.specs.FinMap.Entries.{where_key, is_sorted-where_key, find-where_key}
 
 pub holds : (b : Bool) → b ≡ true → T b
 holds b h = subst T (sym h) tt

@@ -1,9 +1,7 @@
 -- Names in a list, and the next numbers.
-use Rattle.std.proofs.Common.{◌≤◌, set, ltb-true, lt-ltb, le-leb, le-ltb, ltb-false, length-set, ◌≡◌, ◌≢◌, ℕ, zero, suc, ◌+◌, ◌<◌, Bool, true, false, cond, List, [], ◌∷◌, ◌++◌, length, get_or, drop, Option, Some, None, refl, sym, ap, ◌∙◌, arith, nat_eq}
-use Rattle.std.specs.Option.{option_map}
+use Rattle.std.proofs.Common.{◌≤◌, set, ltb-true, lt-ltb, le-leb, le-ltb, ltb-false, length-set, ◌≡◌, ◌≢◌, ℕ, zero, suc, ◌<◌, Bool, true, false, cond, List, [], ◌∷◌, ◌++◌, length, Option, Some, None, refl, sym, ap, ◌∙◌, arith, nat_eq}
 use Rattle.std.specs.Cmp.Lexicographic.{pointwise, bytes_decides}
 use Rattle.std.proofs.lemmas.Bool.{false≢true}
-use Rattle.std.proofs.lemmas.List.{drop_more}
 use Rattle.std.specs.Prelude.{not, is_some, unwrap_or, ◌&&◌, ◌||◌, nat_lt, nat_le, slice_set}
 use Rattle.std.specs.List.{list_all}
 use Rattle.xod_base.specs.Rows.{number_of, one_further, next_of, is_listed, are_distinct, are_names, is_name}

@@ -114,7 +114,7 @@ pub record CanStop (space : SpaceView) (actor : ℕ) (has_txn : Bool) (faults : 
 
 -- ---- what stays
 
--- What no call of a space changes. A count never falls, and what is broken stays so.
+-- What no call of a space changes. A count never falls, what is broken stays so, and so does a last number that stands.
 pub record KeepsSpace (old new : SpaceView) : Type 0 where
   pub tells_same : new.tells ≡ old.tells
   pub start_same : new.start ≡ old.start
@@ -122,6 +122,7 @@ pub record KeepsSpace (old new : SpaceView) : Type 0 where
   pub sessions_same : new.sessions ≡ old.sessions
   pub never_falls : old.faults ≤ new.faults
   pub stays_broken : IsTrue old.is_broken → IsTrue new.is_broken
+  pub stays_last : IsTrue old.is_last → IsTrue new.is_last
 
 -- ---- refusals
 

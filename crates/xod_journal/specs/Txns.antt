@@ -1,5 +1,5 @@
 -- An open transaction: what it sees, and what it has changed since.
-use Rattle.std.specs.Prelude.{◌≡◌, ℕ, Bool, true, false, List, [], ◌++◌, Option, Some, None, Result, Ok, Err}
+use Rattle.std.specs.Prelude.{◌≡◌, ℕ, Bool, true, false, List, [], ◌++◌, Result, Ok, Err}
 use Rattle.xod_base.specs.declared.query.Mode.{Mode}
 use Rattle.xod_base.specs.declared.query.Query.{Query}
 use Rattle.xod_base.specs.declared.answer.StmtError.{StmtError}

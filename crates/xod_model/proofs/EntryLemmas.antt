@@ -1,12 +1,12 @@
 -- A list whose items rise, and the map that its entries are.
-use Rattle.std.proofs.Common.{◌≡◌, ◌∙◌, Bool, true, false, cond, T, List, [], ◌∷◌, map, Option, Some, None, Bor, refl, sym, ap}
+use Rattle.std.proofs.Common.{◌≡◌, ◌∙◌, Bool, true, false, cond, List, [], ◌∷◌, map, Option, Some, None, Bor, refl, sym, ap}
 use Rattle.std.specs.Prelude.{not, ◌&&◌, is_some, option_map, option_copied}
 use Rattle.std.specs.List.{filter, find as first_that}
 use Rattle.std.specs.declared.cmp.Ordering.{Ordering}
 use Rattle.std.specs.declared.cmp.Ordering.TheVariants.{Less, Equal, Greater}
 use Rattle.std.specs.Ordering.{is_eq, is_lt, eq_by_cmp}
 use Rattle.std.specs.Cmp.{IsTotalOrder, alike_right, eq_by_cmp_equiv}
-use Rattle.std.specs.FinMap.{FinMap, IsAntisymmetric, from_entries, from_sorted, entries, get, get-from_entries, get-from_sorted, get-insert, get-remove, entries-from_sorted, same_map}
+use Rattle.std.specs.FinMap.{IsAntisymmetric, from_entries, from_sorted, entries, get, get-from_entries, get-from_sorted, get-insert, get-remove, entries-from_sorted, same_map}
 use Rattle.std.specs.FinMap as maps
 use Rattle.std.specs.FinMap.Entries.{by_order, put, find, find-put, find-where_key, below_all, is_sorted}
 use Rattle.xod_base.specs.Rows.{LinkKey, link_cmp}

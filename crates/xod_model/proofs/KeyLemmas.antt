@@ -8,7 +8,7 @@ use Rattle.std.specs.Cmp.Lexicographic.{on_texts}
 use Rattle.std.specs.FinMap.{IsAntisymmetric, nat_cmp-IsAntisymmetric, slice_cmp-IsAntisymmetric}
 use Rattle.std.proofs.lemmas.Bool.Decides.{nat_tests}
 use Rattle.xod_base.specs.declared.value.EntityId.{EntityId}
-use Rattle.xod_base.specs.Rows.{Cell, LinkKey, id_cmp, cell_cmp, link_cmp, numbers_of_id, numbers_of_cell, numbers_of_link}
+use Rattle.xod_base.specs.Rows.{Cell, LinkKey, id_cmp, cell_cmp, link_cmp, numbers_of_cell, numbers_of_link}
 use Rattle.xod_base.specs.Values.{bytes_cmp}
 pub use Rattle.xod_sets.proofs.CallerLemmas.{id_total, id_same}
 use Rattle.xod_model.specs.Keys.{id_key, cell_key}

@@ -5,7 +5,7 @@ use Rattle.std.specs.List.{AllByRecursion, list_all, sum_by}
 use Rattle.std.specs.List.Sorted.{IsPermutation, IsSortedBy}
 use Rattle.std.specs.declared.cmp.Ordering.{Ordering}
 use Rattle.std.specs.declared.cmp.Ordering.TheVariants.{Less, Equal, Greater}
-use Rattle.std.specs.Ordering.{is_eq, is_gt, is_lt, ordering_reverse, eq_by_cmp, on, flip_args, ordering_then}
+use Rattle.std.specs.Ordering.{is_eq, is_gt, is_lt, ordering_reverse, eq_by_cmp, flip_args}
 use Rattle.std.specs.Cmp.{IsTotalOrder, alike_right, tied_itself, on_total, then_total, back_total}
 use Rattle.std.specs.FinMap.{IsAntisymmetric, get}
 use Rattle.std.proofs.lemmas.Bool.{false≢true}

@@ -1,4 +1,4 @@
-use Rattle.std.proofs.Common.{◌≡◌, Result, IfOk, IfErr, rules}
+use Rattle.std.proofs.Common.{IfOk, IfErr, rules}
 use Rattle.std.proofs.lemmas.Fn.{always_returns_same}
 use Rattle.xod_base.specs.Rows.{link_cmp}
 use Rattle.xod_model.specs.Keys.{link_of}

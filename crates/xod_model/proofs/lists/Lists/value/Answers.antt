@@ -1,8 +1,5 @@
-use Rattle.std.proofs.Common.{◌≡◌, ◌∙◌, sym, ap}
-use Rattle.std.specs.Prelude.{Option, option_map}
-use Rattle.std.specs.FinMap.{get}
-use Rattle.std.specs.List.{find as first_that}
-use Rattle.std.specs.Option.{option_copied}
+use Rattle.std.proofs.Common.{◌∙◌, sym, ap}
+use Rattle.std.specs.Prelude.{option_map}
 use Rattle.xod_model.specs.Entries.{prop_entry}
 use Rattle.xod_model.specs.Keys.{cell_key}
 use Rattle.xod_model.proofs.EntryLemmas.{read-found}
