@@ -1,6 +1,6 @@
 -- What a session knows of its transaction is what the books have.
-use Rattle.std.proofs.Common.{◌≡◌, ℕ, zero, suc, ◌+◌, ◌≤◌, Bool, true, false, cond, List, [], ◌∷◌, ◌++◌, Option, Some, None, refl, sym, ap, subst, ◌∙◌, arith, eqb-true, eq-eqb}
-use Rattle.std.specs.Prelude.{option_map, ◌==◌, ◌&&◌, not, is_some, drop, Result, Ok, Err}
+use Rattle.std.proofs.Common.{◌≡◌, ℕ, zero, suc, ◌+◌, Bool, true, false, cond, List, [], ◌∷◌, ◌++◌, Option, Some, None, refl, sym, ap, subst, ◌∙◌, arith, eqb-true, eq-eqb}
+use Rattle.std.specs.Prelude.{option_map, ◌==◌, ◌&&◌, is_some, drop, Ok, Err}
 use Rattle.std.specs.Ordering.{nat_cmp}
 use Rattle.std.specs.FinMap.{FinMap, get, insert, remove, get-empty}
 use Rattle.std.proofs.lemmas.Option.{none-some, same_Some}
@@ -9,9 +9,7 @@ use Rattle.xod_base.specs.declared.query.Act.{Act}
 use Rattle.xod_base.specs.declared.query.Act.TheVariants as act
 use Rattle.xod_base.specs.declared.query.Mode.{Mode}
 use Rattle.xod_base.specs.declared.query.Mode.TheVariants.{Ordinary, ReadOnly, Exclusive}
-use Rattle.xod_base.specs.declared.answer.StmtError.{StmtError}
 use Rattle.xod_base.specs.declared.answer.FlushAnswer.{FlushAnswer}
-use Rattle.xod_base.specs.declared.answer.FlushAnswer.TheVariants as answer
 use Rattle.xod_base.specs.declared.answer.Reply.{Reply}
 use Rattle.xod_base.specs.declared.causes.Cause.{Cause}
 use Rattle.xod_base.specs.Rows.{RowsValue}
@@ -25,17 +23,17 @@ use Rattle.xod_journal.specs.declared.journal.Pinned.{Pinned}
 use Rattle.xod_journal.specs.declared.journal.Step.{Step}
 use Rattle.xod_journal.specs.declared.journal.Step.TheVariants as step
 use Rattle.xod_journal.specs.Books.{Books, booked, booked_in, has_stopped, holder, pinned, unpinned, committed, same_version, version_of, flush_answer}
-use Rattle.xod_journal.specs.Changes.{all_applied, all_fit, applied, are_all_named, expansion_of, fits, has_names, outcome_of}
+use Rattle.xod_journal.specs.Changes.{all_applied, all_fit, applied, are_all_named, fits, has_names, outcome_of}
 use Rattle.xod_journal.specs.Laws.{ExpansionsFit, IsTold, NamesStay, SameIsEqual}
 use Rattle.xod_journal.specs.Standing.{Newest, Standing, after, after_step, changes_fit, fit_there, moved, newest_step, opening}
 use Rattle.xod_journal.specs.Txns.{FitsRows, OpenTxn, pinned_of, txn_acted, txn_at, txn_flushed}
-use Rattle.xod_journal.proofs.CallerLemmas.{Stepped, flush_cases, get-inserted, get-inserted_other, get-removed, get-removed_other, newest_after-append, step-told, stepped}
+use Rattle.xod_journal.proofs.CallerLemmas.{flush_cases, get-inserted, get-inserted_other, get-removed, get-removed_other, newest_after-append, step-told, stepped}
 use Rattle.xod_session.specs.declared.course.Due.{Due}
 use Rattle.xod_session.specs.declared.course.Due.TheVariants.{Fresh, Ending, Reverting}
 use Rattle.xod_session.specs.declared.course.SharedStep.{SharedStep}
 use Rattle.xod_session.specs.declared.course.SharedStep.TheVariants as shared
 use Rattle.xod_session.specs.Laws.{FitsBase, Holds}
-use Rattle.xod_session.specs.Private.{answered_in, changed_by, outcome_unless}
+use Rattle.xod_session.specs.Private.{answered_in, outcome_unless}
 use Rattle.xod_session.specs.Scripts.{are_named, is_named_form}
 use Rattle.xod_session.specs.Sessions.{answered_by, answered_first, answered_with, can_stop, entry_seen, front_taken, halted, private_before, private_count, readied, session_after, session_step, step_taken, stop_taken}
 use Rattle.xod_session.specs.Sessions as sessions

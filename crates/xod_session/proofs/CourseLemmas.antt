@@ -1,6 +1,6 @@
 -- What a course keeps when it goes on.
-use Rattle.std.proofs.Common.{◌≡◌, ◌≤◌, ◌<◌, ℕ, zero, suc, ◌+◌, ◌-◌, Bool, true, false, cond, List, [], ◌∷◌, drop, length, Option, Some, None, refl, sym, ap, subst, ◌∙◌, arith, eq-eqb, ltb-true}
-use Rattle.std.specs.Prelude.{◌&&◌, ◌||◌, ◌==◌, not, is_some, nat_lt, option_map, IsTrue}
+use Rattle.std.proofs.Common.{◌≡◌, ◌≤◌, ℕ, zero, suc, ◌+◌, ◌-◌, Bool, true, false, cond, List, [], ◌∷◌, drop, length, Option, Some, None, refl, sym, ap, subst, ◌∙◌, arith, eq-eqb, ltb-true}
+use Rattle.std.specs.Prelude.{◌&&◌, ◌||◌, ◌==◌, not, is_some, nat_lt}
 use Rattle.std.specs.List.{slice_get}
 use Rattle.std.proofs.lemmas.Option.{none-some, same_Some}
 use Rattle.std.proofs.lemmas.Bool.{false≢true}
@@ -17,9 +17,9 @@ use Rattle.xod_session.specs.declared.course.Due.TheVariants.{Fresh, Ending, Rev
 use Rattle.xod_session.specs.declared.course.Spot.{Spot}
 use Rattle.xod_session.specs.declared.course.SharedStep.{SharedStep}
 use Rattle.xod_session.specs.declared.course.SharedStep.TheVariants as shared
-use Rattle.xod_session.specs.Courses.{CourseView, FitsOpen, IsCourse, IsReady, Stands, StopsAt, answered_count, asks_more, at_place, course_halted, course_placed, does_body_stand, front_asked, is_due, is_open_by, place_behind, since_place, skipped, spot_place}
-use Rattle.xod_session.specs.Scripts.{do_lines_rise, do_stand, in_block_behind, is_before, is_open_behind, may_stand}
-use Rattle.xod_session.specs.Sessions.{can_stop, is_front, is_line, private_before, private_count}
+use Rattle.xod_session.specs.Courses.{CourseView, FitsOpen, IsCourse, IsReady, StopsAt, answered_count, asks_more, at_place, course_halted, course_placed, does_body_stand, front_asked, is_due, is_open_by, place_behind, skipped, spot_place}
+use Rattle.xod_session.specs.Scripts.{do_lines_rise, do_stand, is_before, may_stand}
+use Rattle.xod_session.specs.Sessions.{is_front, is_line, private_before, private_count}
 use Rattle.xod_session.specs.States.{Block, Place}
 use Rattle.xod_session.specs.Turns.{asks, asks_then, back_to, due_after, is_private, just_of, placed_fresh, placed_then, tried}
 use Rattle.xod_session.proofs.OptionLemmas.{and_true, both_true, map_some}

@@ -1,6 +1,6 @@
 -- Sessions that have all come somewhere by a journal that stands make a legal journal.
-use Rattle.std.proofs.Common.{◌≡◌, ℕ, ◌+◌, Bool, true, false, cond, List, [], ◌∷◌, map, Option, Some, None, refl, sym, ap, subst, ◌∙◌, eqb-true, eq-eqb}
-use Rattle.std.specs.Prelude.{option_and_then, is_some, ◌==◌, ◌&&◌}
+use Rattle.std.proofs.Common.{◌≡◌, ℕ, ◌+◌, Bool, true, false, cond, List, [], ◌∷◌, map, Some, None, refl, sym, ap, ◌∙◌, eq-eqb}
+use Rattle.std.specs.Prelude.{is_some, ◌==◌, ◌&&◌}
 use Rattle.std.specs.List.{list_all}
 use Rattle.std.proofs.lemmas.Option.{none-some, same_Some}
 use Rattle.std.proofs.lemmas.Bool.{false≢true}
@@ -8,10 +8,10 @@ use Rattle.xod_journal.specs.declared.journal.JournalEntry.{JournalEntry}
 use Rattle.xod_journal.specs.Standing.{Newest, Standing, after, after_step, newest_step}
 use Rattle.xod_journal.proofs.JournalLemmas.{after-none, step-newest}
 use Rattle.xod_session.specs.Laws.{IsLegal, is_players}
-use Rattle.xod_session.specs.Sessions.{entry_seen, session_after, session_step}
+use Rattle.xod_session.specs.Sessions.{session_after, session_step}
 use Rattle.xod_session.specs.States.{SessionState}
 use Rattle.xod_session.specs.Transcripts.{names_of}
-use Rattle.xod_session.specs.World.{Player, World, beside, in_front, newest_in, players_step, session_of, world_after, world_step, world_with}
+use Rattle.xod_session.specs.World.{Player, World, beside, in_front, newest_in, players_step, session_of, world_after, world_with}
 use Rattle.xod_session.proofs.OptionLemmas.{both_true, some_there}
 use Rattle.xod_session.proofs.SessionLemmas.{session_after-none}
 use Rattle.xod_session.proofs.WorldLemmas.{players_step-names, players_stepped}

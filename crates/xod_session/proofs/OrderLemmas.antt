@@ -1,17 +1,14 @@
 -- Journals that are printed alike are equal, but for where their stops come from.
-use Rattle.std.proofs.Common.{◌≡◌, ℕ, ◌+◌, ◌≤◌, Bool, true, false, cond, List, [], ◌∷◌, map, Option, Some, None, refl, sym, ap, subst, ◌∙◌, eqb-true, eq-eqb, arith, length, suc}
-use Rattle.std.specs.Prelude.{◌==◌, ◌&&◌, not, is_some}
-use Rattle.std.proofs.lemmas.Option.{none-some, same_Some}
+use Rattle.std.proofs.Common.{◌≡◌, ℕ, ◌+◌, ◌≤◌, true, false, cond, List, [], ◌∷◌, map, Option, Some, None, refl, sym, ap, subst, ◌∙◌, eqb-true, arith, length, suc}
+use Rattle.std.specs.Prelude.{◌==◌, not, is_some}
+use Rattle.std.proofs.lemmas.Option.{none-some}
 use Rattle.std.proofs.lemmas.Bool.{eqb-false, false≢true}
 use Rattle.std.proofs.lemmas.List.{length-map}
-use Rattle.std.proofs.lemmas.Slice.Eq.{bytes_eq-Decides}
 use Rattle.xod_base.specs.declared.query.Mode.{Mode}
 use Rattle.xod_base.specs.Rows.{are_distinct, is_listed, number_of, one_further}
 use Rattle.xod_base.specs.Values.{same_bytes}
 use Rattle.xod_lang.specs.declared.script.Item.{Item}
-use Rattle.xod_lang.specs.declared.script.Item.TheVariants.{Turn}
 use Rattle.xod_lang.specs.declared.script.Statement.{Statement}
-use Rattle.xod_lang.specs.declared.script.Turned.{Turned as TurnOf}
 use Rattle.xod_journal.specs.declared.change.RowChange.{RowChange}
 use Rattle.xod_journal.specs.declared.journal.JournalEntry.{JournalEntry}
 use Rattle.xod_journal.specs.declared.journal.Origin.TheVariants.{Order}
@@ -20,18 +17,18 @@ use Rattle.xod_journal.specs.declared.journal.Step.TheVariants as step
 use Rattle.xod_journal.specs.Books.{booked, same_version, version_of}
 use Rattle.xod_journal.specs.Laws.{SameIsEqual}
 use Rattle.xod_journal.specs.Standing.{Newest, Standing, after_step}
-use Rattle.xod_journal.specs.Txns.{OpenTxn, txn_flushed, txn_at}
+use Rattle.xod_journal.specs.Txns.{OpenTxn}
 use Rattle.xod_session.specs.declared.course.SharedStep.{SharedStep}
 use Rattle.xod_session.specs.declared.course.SharedStep.TheVariants as shared
 use Rattle.xod_session.specs.Laws.{entry_without_origin, without_origin}
 use Rattle.xod_session.specs.Sessions.{front_taken, readied, session_step, step_taken, stepped}
 use Rattle.xod_session.specs.States.{SessionState}
 use Rattle.xod_session.specs.Transcripts.{item_of, name_of, names_of, turned_of}
-use Rattle.xod_session.specs.Turns.{Turned, asks_then, flush_there, flush_turned, same_changes, same_mode, turned, turned_to}
+use Rattle.xod_session.specs.Turns.{Turned, asks_then, flush_there, flush_turned, same_changes, same_mode, turned}
 use Rattle.xod_session.specs.World.{Player, World, beside, in_front, newest_in, players_step, world_after, world_step, world_with}
-use Rattle.xod_session.proofs.OptionLemmas.{both_true, let_through, then_some}
+use Rattle.xod_session.proofs.OptionLemmas.{both_true, let_through}
 use Rattle.xod_session.proofs.SameLemmas.{same_bytes-refl, same_changes-is, same_mode-is, same_version-is}
-use Rattle.xod_session.proofs.WorldLemmas.{Grown, beside-some, in_front-some, players_step-names, world_after-none, world_stepped}
+use Rattle.xod_session.proofs.WorldLemmas.{beside-some, in_front-some, players_step-names, world_after-none, world_stepped}
 
 -- ---- steps of one session
 

@@ -1,6 +1,6 @@
 -- A session and a space go together, also after each call.
 use mathlib.Core.Path.{transport}
-use Rattle.std.proofs.Common.{◌≡◌, ◌≤◌, ◌<◌, ℕ, zero, suc, ◌+◌, ◌-◌, Bool, true, false, cond, List, [], ◌∷◌, drop, length, Option, Some, None, refl, sym, ap, subst, ◌∙◌, arith, IsTrue, ltb-true}
+use Rattle.std.proofs.Common.{◌≡◌, ◌≤◌, ℕ, zero, suc, ◌+◌, ◌-◌, Bool, true, false, cond, List, [], ◌∷◌, drop, length, Option, Some, None, refl, sym, ap, subst, ◌∙◌, arith, IsTrue}
 use Rattle.std.specs.Prelude.{is_none, is_some, option_map, nat_lt, MatchOption, ◌&&◌}
 use Rattle.std.specs.FinMap.{get, get-empty}
 use Rattle.std.specs.Ordering.{nat_cmp}
@@ -16,13 +16,11 @@ use Rattle.xod_lang.specs.declared.script.Statement.{Statement}
 use Rattle.xod_journal.specs.declared.journal.JournalEntry.{JournalEntry}
 use Rattle.xod_journal.specs.declared.journal.Origin.{Origin}
 use Rattle.xod_journal.specs.declared.journal.Origin.TheVariants.{Left, Order, Run}
-use Rattle.xod_journal.specs.declared.journal.Pinned.{Pinned}
-use Rattle.xod_journal.specs.declared.journal.Step.{Step}
 use Rattle.xod_journal.specs.declared.journal.Step.TheVariants as step
 use Rattle.xod_journal.specs.Books.{has_stopped}
 use Rattle.xod_journal.specs.Laws.{NamesStay}
 use Rattle.xod_journal.specs.Seats.{entered, has_open, seat_of}
-use Rattle.xod_journal.specs.Spaces.{CanStop, IsMet, IsSpace, KeepsSpace, SpaceView, faults_in}
+use Rattle.xod_journal.specs.Spaces.{IsMet, IsSpace, KeepsSpace, SpaceView, faults_in}
 use Rattle.xod_journal.specs.Standing.{Newest, after, opening, rows_at}
 use Rattle.xod_journal.specs.Txns.{FitsRows, OpenTxn, pinned_of}
 use Rattle.xod_journal.proofs.CallerLemmas.{booked-on, opening-told, rose-met, seat-open, seat-stopped}
@@ -42,7 +40,7 @@ use Rattle.xod_session.specs.Transcripts.{answers_text}
 use Rattle.xod_session.specs.Turns.{is_private, placed_then}
 use Rattle.xod_session.proofs.AgreeLemmas.{placed-stopped}
 use Rattle.xod_session.proofs.CourseLemmas.{flush-just, front-is, front-stops, halted-course, just-stops, none_answered, placed-course, private_count-drop, skipped-course}
-use Rattle.xod_session.proofs.OptionLemmas.{some_there}
+use Rattle.xod_session.proofs.OptionLemmas.{never_true, some_there}
 use Rattle.xod_session.proofs.PrintLemmas.{answered_zero}
 use Rattle.xod_session.proofs.SeatLemmas.{goes-on, stepped-at, stopped-at}
 
@@ -71,10 +69,10 @@ until-drop None count rest within = private_count-drop count rest within
 until-drop (Some line) count rest within = before-drop line count rest within
 
 -- a row that nothing stopped has come to where it was asked to go
-pub reaches : (until : Option ℕ) (rest : List Statement) (now : ℕ) (row : Row) → row.count ≤ count_until until rest → IsHaltedAt (drop row.count rest) now until row.met → row.met ≡ None
+pub reaches : (until : Option ℕ) (rest : List Statement) (tells : Bool) (now : ℕ) (row : Row) → row.count ≤ count_until until rest → IsHaltedAt (drop row.count rest) tells now until row.met → row.met ≡ None
     → (row.count ≡ count_until until rest) × (count_until until (drop row.count rest) ≡ 0)
-reaches until rest now row within halted free =
-    let none : count_until until (drop row.count rest) ≡ 0 = subst (IsHaltedAt (drop row.count rest) now until) free halted in
+reaches until rest tells now row within halted free =
+    let none : count_until until (drop row.count rest) ≡ 0 = subst (IsHaltedAt (drop row.count rest) tells now until) free halted in
     (omega (arith, until-drop until row.count rest within, none), none)
 
 -- where no private statement comes next, there is nothing to answer
@@ -82,6 +80,14 @@ pub rests : (view : CourseView) → IsReady view → (until : Option ℕ) → vi
 rests view ready until =
     let none : count_until until view.place.rest ≡ 0 = omega (arith, until-within until view.place.rest, ready) in
     sym (ap (skipped view) none)
+
+-- a cause that a transaction met, as the space has it: where the space tells its rows, so does the transaction
+met-told : (tells there : Bool) (now : ℕ) (reason : Cause) → (IsTrue tells → IsTrue there) → IsMetBy there now reason → IsMetBy tells now reason
+met-told tells there now cause.Device told rose = rose
+met-told tells there now cause.Broken told none = none
+met-told tells there now cause.Damaged told not_there = never_true tells (λ is. false≢true (sym not_there ∙ told is))
+met-told tells there now cause.Spent told none = none
+met-told tells there now cause.Memory told is = is
 
 first_of : (rest : List Statement) (line : ℕ) → first_line rest ≡ Some line → (statement : Statement) × (more : List Statement) × (rest ≡ statement ∷ more) × (statement.line ≡ line)
 first_of [] line is = absurd (none-some line is)
@@ -116,13 +122,13 @@ module _ {Open : Type 0} (tells : Open → Bool) (txn : Open → OpenTxn) (fault
   module _ (session : SessionView Open) (plays : PlaysAs tells txn faults space session) (going : session.course.place.stopped ≡ false) where
     -- ---- private statements
 
-    halted_there : (until : Option ℕ) (course : CourseView) (now : ℕ) (met : Option Halt) → IsCourse course → course.place.stopped ≡ false → IsHaltedAt course.place.rest now until met
-        → (halt : Halt) → met ≡ Some halt → StopsAt course halt.line × IsMetBy now halt.cause
-    halted_there until course now None is still halted halt e = absurd (none-some halt e)
-    halted_there until course now (Some given) is still halted halt e =
+    halted_there : (until : Option ℕ) (course : CourseView) (there : Bool) (now : ℕ) (met : Option Halt) → (IsTrue space.tells → IsTrue there) → IsCourse course → course.place.stopped ≡ false → IsHaltedAt course.place.rest there now until met
+        → (halt : Halt) → met ≡ Some halt → StopsAt course halt.line × IsMetBy space.tells now halt.cause
+    halted_there until course there now None told is still halted halt e = absurd (none-some halt e)
+    halted_there until course there now (Some given) told is still halted halt e =
         let f = first_of course.place.rest given.line halted.0 in
         let same = same_Some _ _ e in
-        (subst (StopsAt course) (f.3 ∙ ap (λ (h : Halt). h.line) same) (front-stops course is still f.0 f.1 f.2), subst (λ (h : Halt). IsMetBy now h.cause) same halted.1)
+        (subst (StopsAt course) (f.3 ∙ ap (λ (h : Halt). h.line) same) (front-stops course is still f.0 f.1 f.2), subst (λ (h : Halt). IsMetBy space.tells now h.cause) same (met-told space.tells there now given.cause told halted.1))
 
     pub prepared : (one new : Open) (said later : Dialogue) (until : Option ℕ) (row : Row) → session.txn ≡ Some one → session.met ≡ None → session.printed ≡ printed_of said
         → AnswersRow tells txn faults session.course.place.rest until said later one new row
@@ -140,7 +146,7 @@ module _ {Open : Type 0} (tells : Open → Bool) (txn : Open → OpenTxn) (fault
           told = λ other is t. subst (λ o. IsTrue (tells o)) (same_Some _ _ is) (subst IsTrue (sym answers.stays.tells_same) (plays.told one held t));
           least = plays.least;
           most = plays.most;
-          met = halted_there until (skipped session.course row.count) (faults new) row.met course going answers.halted;
+          met = halted_there until (skipped session.course row.count) (tells one) (faults new) row.met (plays.told one held) course going answers.halted;
         }
 
 -- ---- stops
@@ -179,7 +185,7 @@ kept tells txn faults old new session keeps same plays = record {
   told = λ one is t. plays.told one is (subst IsTrue keeps.tells_same t);
   least = plays.least;
   most = subst (λ n. session.actor ≤ n) (sym keeps.sessions_same) plays.most;
-  met = plays.met;
+  met = λ halt is. let m = plays.met halt is in (m.0, subst (λ t. IsMetBy t (faults_in faults session.txn) halt.cause) (sym keeps.tells_same) m.1);
 }
 
 -- ---- calls that go on where a session plays
@@ -195,7 +201,7 @@ unknown start journal actor course printed txn other is_known at =
     record { come = at.come; is = at.is; since = at.since; place = at.place; open_is = at.open_is; said = at.said; txn_is = λ known. absurd (false≢true known) }
 
 -- what is there where a statement was not answered, and where an order gives a stop
-met_there : (space : SpaceView) (count : ℕ) → IsSpace space → (reason : Cause) → IsMetBy count reason → IsMet space count reason Run
+met_there : (space : SpaceView) (count : ℕ) → IsSpace space → (reason : Cause) → IsMetBy space.tells count reason → IsMet space count reason Run
 met_there space count lawful cause.Device rose = rose-met space 0 count lawful rose
 met_there space count lawful cause.Broken none = absurd none
 met_there space count lawful cause.Damaged is = tt

@@ -1,8 +1,7 @@
 -- What is said and what is printed go together.
-use Rattle.std.proofs.Common.{◌≡◌, ◌≤◌, ℕ, zero, suc, ◌+◌, ◌-◌, Bool, true, false, cond, List, [], ◌∷◌, ◌++◌, drop, length, Option, Some, None, refl, sym, ap, subst, ◌∙◌, arith, length-append, append-nil}
-use Rattle.std.specs.List.{flat_map}
+use Rattle.std.proofs.Common.{◌≡◌, ℕ, zero, suc, ◌+◌, ◌-◌, true, false, cond, List, [], ◌∷◌, ◌++◌, drop, length, Option, Some, None, refl, sym, ap, subst, ◌∙◌, arith, length-append, append-nil}
 use Rattle.std.proofs.lemmas.List.Concat.{flat_map-append}
-use Rattle.std.proofs.lemmas.List.{drop-append-le, length-drop}
+use Rattle.std.proofs.lemmas.List.{drop-append-le}
 use Rattle.xod_base.specs.declared.answer.Reply.{Reply}
 use Rattle.xod_base.specs.declared.query.Query.{Query}
 use Rattle.xod_lang.specs.declared.script.Form.{Form}
@@ -12,7 +11,7 @@ use Rattle.xod_print.specs.Texts.{answer_line}
 use Rattle.xod_session.specs.Dialogues.{Printed, Prints, form_printed, line_printed, looked_up_printed, outcome_printed, printed_by, query_printed}
 use Rattle.xod_session.specs.Private.{Outcome, answered_in, looked_up, outcome_in, said_by}
 use Rattle.xod_session.specs.Sessions.{answered_by, answered_first, answered_with}
-use Rattle.xod_session.specs.States.{Answered, Said, SessionState, replied}
+use Rattle.xod_session.specs.States.{Said, SessionState, replied}
 use Rattle.xod_session.specs.Transcripts.{answered_text, answers_text}
 use Rattle.xod_session.specs.Variables.{Variables}
 

@@ -1,18 +1,15 @@
 -- Private statements in a row, one after another.
-use Rattle.std.proofs.Common.{◌≡◌, ◌≤◌, ℕ, zero, suc, ◌+◌, Bool, true, false, cond, List, [], ◌∷◌, drop, length, Option, Some, None, refl, sym, ap, subst, ◌∙◌, arith, IsTrue}
-use Rattle.std.specs.Prelude.{◌&&◌, Result, Ok, Err}
-use Rattle.std.proofs.lemmas.Bool.{false≢true}
+use Rattle.std.proofs.Common.{◌≡◌, ℕ, suc, ◌+◌, Bool, true, false, cond, List, [], ◌∷◌, drop, Option, Some, None, refl, sym, ap, subst, ◌∙◌, arith, IsTrue}
+use Rattle.std.specs.Prelude.{◌&&◌, Ok, Err}
 use Rattle.std.proofs.lemmas.List.{drop-drop}
 use Rattle.xod_base.specs.declared.causes.Cause.{Cause}
 use Rattle.xod_lang.specs.declared.script.Statement.{Statement}
-use Rattle.xod_journal.specs.Txns.{OpenTxn, pinned_of}
+use Rattle.xod_journal.specs.Txns.{OpenTxn}
 use Rattle.xod_session.specs.declared.dialogue.Dialogue.{Dialogue}
-use Rattle.xod_session.specs.declared.row.Halt.{Halt}
-use Rattle.xod_session.specs.declared.row.Row.{Row}
-use Rattle.xod_session.specs.Answers.{Answers, AnswersRow, Speaks, Stays, count_until, first_line, is_below}
+use Rattle.xod_session.specs.Answers.{Answers, AnswersRow, IsMetBy, Stays, count_until, first_line, is_below}
 use Rattle.xod_session.specs.Dialogues.{HasStopRoom, form_printed, printed_by, printed_of}
 use Rattle.xod_session.specs.Scripts.{are_named, is_named_form}
-use Rattle.xod_session.specs.Sessions.{private_before, private_count}
+use Rattle.xod_session.specs.Sessions.{private_count}
 use Rattle.xod_session.specs.Turns.{is_private}
 use Rattle.xod_session.proofs.OptionLemmas.{both_true}
 
@@ -65,7 +62,7 @@ module _ {Open : Type 0} (tells : Open → Bool) (txn : Open → OpenTxn) (fault
   meets count now later new newer statement more cause goes is a = record {
     within = omega (arith, goes.private);
     told = λ t. ap (λ s. s.0) (answered_all count now new goes t) ∙ sym a.silent;
-    halted = (ap first_line is, a.met);
+    halted = (ap first_line is, subst (λ t. IsMetBy t (faults newer) cause) goes.stays.tells_same a.met);
     room = λ r. a.room (goes.room r);
     stays = stays_on old new newer goes.stays a.stays;
   }

@@ -1,33 +1,26 @@
 -- What a call of a space that answered is as a shared step of a session.
 use base.Fml.{GName}
-use Rattle.std.proofs.Common.{◌≡◌, ℕ, ◌+◌, Bool, true, false, cond, List, [], ◌∷◌, Option, Some, None, refl, sym, ap, subst, ◌∙◌, inl, IsTrue}
-use Rattle.std.specs.Prelude.{option_map, is_some, ◌&&◌, ◌⊎◌}
+use Rattle.std.proofs.Common.{◌≡◌, ℕ, Bool, true, false, cond, List, Option, Some, None, refl, sym, ap, subst, ◌∙◌, inl, IsTrue}
+use Rattle.std.specs.Prelude.{option_map, is_some}
 use Rattle.std.proofs.lemmas.Option.{none-some, same_Some}
-use Rattle.xod_base.specs.Causes.{Rose}
 use Rattle.xod_base.specs.declared.answer.FlushAnswer.{FlushAnswer}
 use Rattle.xod_base.specs.declared.answer.FlushAnswer.TheVariants as flush
-use Rattle.xod_base.specs.declared.answer.Reply.{Reply}
 use Rattle.xod_base.specs.declared.answer.Reply.TheVariants as reply
 use Rattle.xod_base.specs.declared.causes.Cause.{Cause}
 use Rattle.xod_base.specs.declared.causes.Cause.TheVariants as cause
 use Rattle.xod_base.specs.declared.query.Mode.{Mode}
-use Rattle.xod_journal.specs.declared.change.RowChange.{RowChange}
 use Rattle.xod_journal.specs.declared.journal.JournalEntry.{JournalEntry}
-use Rattle.xod_journal.specs.declared.journal.Origin.TheVariants.{Run}
 use Rattle.xod_journal.specs.declared.journal.Pinned.{Pinned}
-use Rattle.xod_journal.specs.declared.journal.Step.{Step}
 use Rattle.xod_journal.specs.declared.journal.Step.TheVariants as step
-use Rattle.xod_journal.specs.Books.{flush_answer, same_version, version_of}
+use Rattle.xod_journal.specs.Books.{same_version, version_of}
 use Rattle.xod_journal.specs.Laws.{SameIsEqual}
-use Rattle.xod_journal.specs.Locals.{held_of}
 use Rattle.xod_journal.specs.Seats.{books_after, entered, has_open, seat_of}
-use Rattle.xod_journal.specs.Spaces.{Begins, Flushes, IsFault, IsFlushed, IsMet, IsSpace, IsTxn, KeepsSpace, Reverts, SpaceView, Syncs, faults_in, newest_of, without_fault}
-use Rattle.xod_journal.specs.Standing.{Newest, newest_after}
+use Rattle.xod_journal.specs.Spaces.{Begins, Flushes, IsFault, IsFlushed, IsSpace, IsTxn, KeepsSpace, Reverts, SpaceView, Syncs, newest_of, without_fault}
 use Rattle.xod_journal.specs.Txns.{OpenTxn, pinned_of, txn_at, txn_flushed}
 use Rattle.xod_journal.proofs.CallerLemmas.{booked-on, fault-met, seat-begun, seat-ended, seat-flushed, seat-reverted, seat-synced, same_version-refl}
 use Rattle.xod_session.specs.declared.course.SharedStep.TheVariants as shared
 use Rattle.xod_session.specs.Steps.{IsFaulted, IsReason, Takes, fault_in}
-use Rattle.xod_session.specs.Turns.{flush_there, same_changes, same_mode, turned, turned_to}
+use Rattle.xod_session.specs.Turns.{flush_there, same_changes, turned, turned_to}
 use Rattle.xod_session.proofs.OptionLemmas.{and_true}
 use Rattle.xod_session.proofs.SameLemmas.{same_changes-refl, same_mode-refl}
 

@@ -1,6 +1,6 @@
 -- What a turn of one session leaves of another, and where a session is between its turns.
 use mathlib.Core.Path.{transport}
-use Rattle.std.proofs.Common.{◌≡◌, ◌≤◌, ℕ, suc, ◌+◌, Bool, true, false, cond, List, [], ◌∷◌, ◌++◌, map, drop, length, Option, Some, None, refl, sym, ap, subst, ◌∙◌, arith, IsTrue, append-nil, append_assoc, eqb-true, eq-eqb}
+use Rattle.std.proofs.Common.{◌≡◌, ◌≤◌, ℕ, suc, Bool, true, false, cond, List, [], ◌∷◌, ◌++◌, map, drop, Option, Some, None, refl, sym, ap, subst, ◌∙◌, arith, IsTrue, append-nil, append_assoc}
 use Rattle.std.specs.Prelude.{is_none, is_some, not, option_map, ◌==◌, ◌&&◌}
 use Rattle.std.specs.List.{list_all}
 use Rattle.std.proofs.lemmas.Option.{none-some}
@@ -10,9 +10,9 @@ use Rattle.xod_journal.specs.declared.journal.JournalEntry.{JournalEntry}
 use Rattle.xod_journal.specs.declared.journal.Step.{Step}
 use Rattle.xod_journal.specs.declared.journal.Step.TheVariants as step
 use Rattle.xod_journal.specs.declared.journal.Origin.TheVariants.{Run}
-use Rattle.xod_journal.specs.Books.{Books, all_booked}
+use Rattle.xod_journal.specs.Books.{all_booked}
 use Rattle.xod_journal.specs.Seats.{books_after, entered, seat_of}
-use Rattle.xod_journal.specs.Spaces.{IsSpace, KeepsSpace, SpaceView}
+use Rattle.xod_journal.specs.Spaces.{IsSpace, KeepsSpace, SpaceView, faults_in}
 use Rattle.xod_journal.specs.Standing.{Newest, newest_after, opening}
 use Rattle.xod_journal.specs.Txns.{OpenTxn}
 use Rattle.xod_journal.proofs.CallerLemmas.{all_booked-append, seat-beside}
@@ -23,14 +23,15 @@ use Rattle.xod_session.specs.declared.course.SharedStep.{SharedStep}
 use Rattle.xod_session.specs.declared.session.Progress.{Progress}
 use Rattle.xod_session.specs.declared.session.Progress.TheVariants as progress
 use Rattle.xod_session.specs.declared.session.Session.{Session}
+use Rattle.xod_session.specs.Answers.{IsMetBy}
 use Rattle.xod_session.specs.Calls.{Grows, Halts, IsFresh, PreparesTo, Progresses, front_of}
 use Rattle.xod_session.specs.Courses.{CourseView, IsCourse, answered_count, front_asked, skipped}
 use Rattle.xod_session.specs.Dialogues.{Prints}
 use Rattle.xod_session.specs.Laws.{is_others}
-use Rattle.xod_session.specs.Seats.{IsAt, Plays, PlaysAs, Rests, SessionView}
-use Rattle.xod_session.specs.Sessions.{answered_first, private_before, private_count, session_after}
+use Rattle.xod_session.specs.Seats.{IsAt, PlaysAs, Rests, SessionView}
+use Rattle.xod_session.specs.Sessions.{answered_first, private_before, private_count}
 use Rattle.xod_session.specs.States.{SessionState, opened}
-use Rattle.xod_session.specs.Turns.{asks, asks_then, is_private}
+use Rattle.xod_session.specs.Turns.{asks}
 use Rattle.xod_session.specs.World.{entry_of}
 use Rattle.xod_session.proofs.CourseLemmas.{answered-skipped, closed-ready, ended-closed, private_count-drop, skipped-course}
 use Rattle.xod_session.proofs.PlaysLemmas.{until-within}
@@ -87,7 +88,7 @@ module _ {Open : Type 0} (tells : Open → Bool) (txn : Open → OpenTxn) (fault
         told = λ one is t. plays.told one is (subst IsTrue keeps.tells_same t);
         least = plays.least;
         most = subst (λ n. session.actor ≤ n) (sym keeps.sessions_same) plays.most;
-        met = plays.met;
+        met = λ halt is. let m = plays.met halt is in (m.0, subst (λ t. IsMetBy t (faults_in faults session.txn) halt.cause) (sym keeps.tells_same) m.1);
       }
 
   -- a session without an open transaction is where its script and the journal have come

@@ -1,12 +1,12 @@
 -- A well-formed session is one that can be played.
-use Rattle.std.proofs.Common.{◌≡◌, ◌≤◌, ◌<◌, ℕ, ◌+◌, Bool, true, false, cond, List, [], ◌∷◌, length, Option, Some, None, refl, sym, ap, subst, ◌∙◌, arith, leb-true, lt-ltb}
+use Rattle.std.proofs.Common.{◌≡◌, ◌<◌, ℕ, ◌+◌, Bool, true, false, List, [], ◌∷◌, length, Some, None, refl, ap, ◌∙◌, arith, leb-true, lt-ltb}
 use Rattle.std.specs.Prelude.{◌&&◌, nat_le, nat_lt, not, option_and_then}
 use Rattle.std.specs.List.{list_all}
 use Rattle.std.proofs.lemmas.Option.{none-some, same_Some}
 use Rattle.std.proofs.lemmas.Bool.{false≢true}
 use Rattle.xod_base.specs.declared.limits.TheConstants.{LONGEST_NAME}
 use Rattle.xod_base.specs.Names.{is_name_byte, is_name_word, is_session_word, starts_name}
-use Rattle.xod_base.specs.Queries.{is_named, is_within_limits}
+use Rattle.xod_base.specs.Queries.{is_named}
 use Rattle.xod_base.specs.Rows.{has_name_length}
 use Rattle.xod_base.specs.Values.{is_value}
 use Rattle.xod_words.specs.declared.draft.Draft.{Draft}

@@ -2,7 +2,6 @@
 use Rattle.std.proofs.Common.{◌≡◌, ℕ, ◌+◌, ◌≤◌, true, false, cond, List, [], ◌∷◌, ◌++◌, map, Option, Some, None, refl, sym, ap, subst, ◌∙◌, eqb-true, eq-eqb, arith, append-nil, append_assoc}
 use Rattle.std.specs.Prelude.{option_and_then, option_map, ◌==◌}
 use Rattle.std.proofs.lemmas.Option.{none-some, same_Some}
-use Rattle.std.proofs.lemmas.Bool.{false≢true}
 use Rattle.std.proofs.lemmas.List.{map-append}
 use Rattle.std.proofs.lemmas.Slice.Eq.{bytes_eq-Decides}
 use Rattle.xod_base.specs.Values.{same_bytes}
@@ -13,14 +12,13 @@ use Rattle.xod_lang.specs.declared.script.Turned.{Turned}
 use Rattle.xod_lang.specs.declared.script.Turned.TheVariants as turn
 use Rattle.xod_journal.specs.declared.journal.JournalEntry.{JournalEntry}
 use Rattle.xod_journal.specs.declared.journal.Step.{Step}
-use Rattle.xod_journal.specs.declared.journal.Step.TheVariants as step
 use Rattle.xod_journal.specs.Standing.{Newest, after, after_step}
 use Rattle.xod_journal.specs.Txns.{OpenTxn}
 use Rattle.xod_journal.proofs.CallerLemmas.{after-append, after-newest}
 use Rattle.xod_session.specs.declared.course.SharedStep.{SharedStep}
 use Rattle.xod_session.specs.declared.course.SharedStep.TheVariants as shared
 use Rattle.xod_session.specs.Laws.{IsPlayed}
-use Rattle.xod_session.specs.Sessions.{entry_seen, readied, session_after, session_step}
+use Rattle.xod_session.specs.Sessions.{entry_seen, readied, session_step}
 use Rattle.xod_session.specs.States.{SessionState}
 use Rattle.xod_session.specs.Transcripts.{item_of, name_of, names_of, turned_of}
 use Rattle.xod_session.specs.Turns.{asks_then}

@@ -1,5 +1,5 @@
 -- What a private statement does to what is said and to a transaction, told or not.
-use Rattle.std.specs.Prelude.{◌≡◌, ◌≤◌, ℕ, List, [], ◌∷◌, drop, Bool, IsTrue, nat_lt, true, Option, Some, None, Result, Ok, Err, IfErr, OnErr, OnOk}
+use Rattle.std.specs.Prelude.{◌≡◌, ◌≤◌, ℕ, List, [], ◌∷◌, drop, Bool, IsTrue, nat_lt, false, true, Option, Some, None, Result, Ok, Err, IfErr, OnErr, OnOk}
 use Rattle.xod_base.specs.declared.answer.StmtError.{StmtError}
 use Rattle.xod_base.specs.declared.answer.StmtError.TheVariants as error
 use Rattle.xod_base.specs.declared.causes.Cause.{Cause}
@@ -13,13 +13,14 @@ use Rattle.xod_session.specs.declared.row.Row.{Row}
 use Rattle.xod_session.specs.Dialogues.{HasStopRoom, Printed, Spoken, printed_by, printed_of}
 use Rattle.xod_session.specs.Sessions.{private_before, private_count}
 
--- Why a statement was not answered: the device failed, and the transaction has counted faults; damaged bytes; memory.
-abbrev pub IsMetBy : ℕ → Cause → Type 0
-IsMetBy faults cause.Device = Rose 0 faults
-IsMetBy faults cause.Broken = ⊥
-IsMetBy faults cause.Damaged = Unit {0}
-IsMetBy faults cause.Spent = ⊥
-IsMetBy faults cause.Memory = Unit {0}
+-- Why a statement was not answered: the device failed, and the transaction has counted faults; damaged bytes, which no
+-- transaction meets that tells its rows; memory.
+abbrev pub IsMetBy : Bool → ℕ → Cause → Type 0
+IsMetBy tells faults cause.Device = Rose 0 faults
+IsMetBy tells faults cause.Broken = ⊥
+IsMetBy tells faults cause.Damaged = tells ≡ false
+IsMetBy tells faults cause.Spent = ⊥
+IsMetBy tells faults cause.Memory = Unit {0}
 
 -- why an error stops a session; none where it is a refusal
 abbrev pub cause_in : StmtError → Option Cause
@@ -54,7 +55,7 @@ pub record Answers {Open : Type 0} (tells : Open → Bool) (txn : Open → OpenT
   pub told : IsTrue (tells old) → OnOk result ((printed_of later, txn new) ≡ expected (printed_of said) (txn old))
   pub silent : OnErr result (printed_of later ≡ printed_of said)
   pub room : HasStopRoom said → HasStopRoom later
-  pub met : IfErr result (IsMetBy (faults new))
+  pub met : IfErr result (IsMetBy (tells old) (faults new))
   pub stays : Stays tells txn faults old new
 
 -- ---- statements in a row
@@ -75,9 +76,9 @@ count_until None rest = private_count rest
 count_until (Some line) rest = private_before line rest
 
 -- what stopped a row: nothing, or the first statement of the rest, which was not answered
-abbrev pub IsHaltedAt : List Statement → ℕ → Option ℕ → Option Halt → Type 0
-IsHaltedAt rest faults until None = count_until until rest ≡ 0
-IsHaltedAt rest faults until (Some halt) = (first_line rest ≡ Some halt.line) × IsMetBy faults halt.cause
+abbrev pub IsHaltedAt : List Statement → Bool → ℕ → Option ℕ → Option Halt → Type 0
+IsHaltedAt rest tells faults until None = count_until until rest ≡ 0
+IsHaltedAt rest tells faults until (Some halt) = (first_line rest ≡ Some halt.line) × IsMetBy tells faults halt.cause
 
 -- what is printed, and the transaction where nothing stopped the row
 abbrev pub Speaks : Spoken → Printed → OpenTxn → Option Halt → Type 0
@@ -88,6 +89,6 @@ Speaks expected printed txn (Some halt) = expected.0 ≡ printed
 pub record AnswersRow {Open : Type 0} (tells : Open → Bool) (txn : Open → OpenTxn) (faults : Open → ℕ) (rest : List Statement) (until : Option ℕ) (said later : Dialogue) (old new : Open) (row : Row) : Type 0 where
   pub within : row.count ≤ count_until until rest
   pub told : IsTrue (tells old) → Speaks (printed_by row.count (printed_of said) (txn old) rest) (printed_of later) (txn new) row.met
-  pub halted : IsHaltedAt (drop row.count rest) (faults new) until row.met
+  pub halted : IsHaltedAt (drop row.count rest) (tells old) (faults new) until row.met
   pub room : HasStopRoom said → HasStopRoom later
   pub stays : Stays tells txn faults old new

@@ -2,6 +2,7 @@
 use Rattle.std.specs.Prelude.{◌≡◌, ◌⊎◌, ℕ, Bool, true, false, List, [], ◌∷◌, ◌++◌, map, drop, not, ◌&&◌, Option, Some, None, if◌then◌else◌}
 use Rattle.xod_base.specs.declared.causes.Cause.{Cause}
 use Rattle.xod_base.specs.declared.query.Mode.{Mode}
+use Rattle.xod_lang.specs.declared.script.Turned.TheVariants as turn
 use Rattle.xod_journal.specs.declared.journal.JournalEntry.{JournalEntry}
 use Rattle.xod_journal.specs.declared.journal.Origin.TheVariants.{Run}
 use Rattle.xod_journal.specs.declared.journal.Step.{Step}
@@ -108,9 +109,16 @@ pub record IsRefused {Open : Type 0} (faults : Open → ℕ) (old new : SpaceVie
   pub back : Option Open
   pub why : IsReason old new (faults_in faults before.txn) (faults_in faults back) asked reason
 
+-- the flush that a session took where that comes next, or no step
+abbrev pub IsFlushAlone : Next → List Step → Type 0
+IsFlushAlone comes [] = Unit {0}
+IsFlushAlone comes (taken ∷ []) = (comes ≡ next.Flush) × (turned_of taken ≡ turn.Flush)
+IsFlushAlone comes (taken ∷ another ∷ more) = ⊥
+
 -- A session stopped in this run. A flush that committed may go before the stop.
 pub record HasStopped {Open : Type 0} (faults : Open → ℕ) (old new : SpaceView) (before after : Session Open) (line : ℕ) (reason : Cause) : Type 0 where
   pub flushed : List Step
+  pub flushes : IsFlushAlone (next_of before) flushed
   pub entries : new.journal ≡ old.journal ++ map (entry_of before.actor) (flushed ++ step.Stop line reason Run ∷ [])
   pub stopped : after.course.place.stopped ≡ true
   pub why : (next_of before ≡ next.Stop line reason) ⊎ IsRefused faults old new before line reason

@@ -1,5 +1,5 @@
 -- What a session has said, as it keeps it: the lines of its answers, and not the answers themselves.
-use Rattle.std.specs.Prelude.{◌≡◌, ◌≤◌, ℕ, zero, suc, ◌+◌, ◌-◌, Bool, List, [], ◌∷◌, ◌++◌, drop, length, Option, Some, None, vec_len, if◌then◌else◌}
+use Rattle.std.specs.Prelude.{◌≡◌, ℕ, zero, suc, ◌+◌, ◌-◌, Bool, List, [], ◌∷◌, ◌++◌, drop, length, Option, Some, None, if◌then◌else◌}
 use Rattle.xod_base.specs.declared.query.Query.{Query}
 use Rattle.xod_base.specs.declared.answer.Reply.{Reply}
 use Rattle.xod_lang.specs.declared.script.Form.{Form}

@@ -1,6 +1,4 @@
 -- A walk over the entity words of a query as the program keeps it.
-use Rattle.std.specs.Prelude.{ℕ, List}
-use Rattle.xod_base.specs.declared.value.EntityId.{EntityId}
 use Rattle.xod_session.specs.declared.filling.Words.{Words}
 use Rattle.xod_session.specs.Variables.{Filling}
 

@@ -1,5 +1,5 @@
 -- What sessions, books and orders have to do with each other.
-use Rattle.std.specs.Prelude.{◌≡◌, ◌≤◌, ℕ, Bool, true, not, List, [], ◌∷◌, ◌++◌, map, length, Option, Some, option_map, is_some, ◌==◌}
+use Rattle.std.specs.Prelude.{◌≡◌, ℕ, Bool, true, not, List, [], ◌++◌, map, Option, Some, option_map, is_some, ◌==◌}
 use Rattle.std.specs.List.{list_all}
 use Rattle.std.specs.FinMap.{get}
 use Rattle.xod_base.specs.Rows.{RowsValue, are_distinct}

@@ -1,7 +1,6 @@
 -- What private statements are answered: those that a session's own transaction answers.
 use Rattle.std.specs.Prelude.{ℕ, ◌+◌, length, List, [], ◌∷◌, ◌++◌, Option, Some, None, Result, Ok, Err, if◌then◌else◌}
 use Rattle.std.specs.FinMap.{insert}
-use Rattle.xod_base.specs.declared.value.EntityId.{EntityId}
 use Rattle.xod_base.specs.declared.query.Act.{Act}
 use Rattle.xod_base.specs.declared.query.Act.TheVariants as act
 use Rattle.xod_base.specs.declared.query.Query.{Query}

@@ -1,5 +1,5 @@
 -- A session and a space that it plays over: where the one is by the journal of the other.
-use Rattle.std.specs.Prelude.{◌≡◌, ◌≤◌, ℕ, ◌+◌, Bool, true, false, IsTrue, List, [], ◌∷◌, ◌++◌, map, length, Option, Some, None, is_none, is_some, option_map}
+use Rattle.std.specs.Prelude.{◌≡◌, ◌≤◌, ℕ, Bool, false, IsTrue, List, Option, Some, is_none, is_some, option_map}
 use Rattle.xod_base.specs.declared.causes.Cause.{Cause}
 use Rattle.xod_base.specs.declared.query.Query.{Query}
 use Rattle.xod_lang.specs.declared.script.Statement.{Statement}
@@ -14,10 +14,9 @@ use Rattle.xod_session.specs.declared.session.Session.{Session}
 use Rattle.xod_session.specs.Answers.{IsMetBy}
 use Rattle.xod_session.specs.Courses.{CourseView, IsCourse, StopsAt, answered_count}
 use Rattle.xod_session.specs.Dialogues.{Printed, Prints, printed_of}
-use Rattle.xod_session.specs.Sessions.{answered_first, private_before, private_count, session_after}
-use Rattle.xod_session.specs.States.{Place, SessionState, opened}
+use Rattle.xod_session.specs.Sessions.{answered_first, session_after}
+use Rattle.xod_session.specs.States.{SessionState, opened}
 use Rattle.xod_session.specs.Transcripts.{answers_text}
-use Rattle.xod_session.specs.World.{entry_of}
 
 -- ---- what a session tells of itself
 
@@ -69,7 +68,7 @@ pub record PlaysAs {Open : Type 0} (tells : Open → Bool) (txn : Open → OpenT
   pub told : (one : Open) → session.txn ≡ Some one → IsTrue space.tells → IsTrue (tells one)
   pub least : 1 ≤ session.actor
   pub most : session.actor ≤ space.sessions
-  pub met : (halt : Halt) → session.met ≡ Some halt → StopsAt session.course halt.line × IsMetBy (faults_in faults session.txn) halt.cause
+  pub met : (halt : Halt) → session.met ≡ Some halt → StopsAt session.course halt.line × IsMetBy space.tells (faults_in faults session.txn) halt.cause
 
 abbrev pub Plays : {Open : Type 0} → (Open → Bool) → (Open → OpenTxn) → (Open → ℕ) → SpaceView → Session Open → Type 0
 Plays tells txn faults space session = PlaysAs tells txn faults space (view_of session)

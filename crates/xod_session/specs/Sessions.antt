@@ -1,5 +1,5 @@
 -- A session over a journal: a function of its own script and the journal alone.
-use Rattle.std.specs.Prelude.{ℕ, zero, suc, ◌+◌, Bool, true, false, not, ◌&&◌, ◌||◌, List, [], ◌∷◌, drop, Option, Some, None, option_and_then, ◌==◌, nat_lt, if◌then◌else◌}
+use Rattle.std.specs.Prelude.{ℕ, zero, suc, Bool, true, false, ◌&&◌, ◌||◌, List, [], ◌∷◌, drop, Option, Some, None, option_and_then, ◌==◌, nat_lt, if◌then◌else◌}
 use Rattle.xod_base.specs.declared.causes.Cause.{Cause}
 use Rattle.xod_base.specs.declared.answer.Reply.TheVariants as reply
 use Rattle.xod_lang.specs.declared.script.Statement.{Statement}

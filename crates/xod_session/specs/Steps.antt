@@ -46,12 +46,12 @@ fault_in (flush.Committed version fault) = fault
 fault_in (flush.Conflict base now) = None
 
 -- Why a step was not taken, or could not go on: a count rose in the call, that of the space or that of the transaction;
--- the space was broken before; its bytes are not told; a flush needs a next number; memory.
+-- the space was broken before; its bytes are not told; a flush needs a next number, and the last one stands; memory.
 abbrev pub IsReason : SpaceView → SpaceView → ℕ → ℕ → SharedStep → Cause → Type 0
 IsReason old new early late asked cause.Device = Rose old.faults new.faults ⊎ Rose early late
 IsReason old new early late asked cause.Broken = IsTrue old.is_broken
 IsReason old new early late asked cause.Damaged = old.tells ≡ false
-IsReason old new early late asked cause.Spent = asked ≡ shared.Flush
+IsReason old new early late asked cause.Spent = (asked ≡ shared.Flush) × IsTrue new.is_last
 IsReason old new early late asked cause.Memory = Unit {0}
 
 -- a flush that committed, but could not go on at its commit

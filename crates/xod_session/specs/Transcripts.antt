@@ -10,7 +10,7 @@ use Rattle.xod_journal.specs.declared.journal.Step.{Step}
 use Rattle.xod_journal.specs.declared.journal.Step.TheVariants as step
 use Rattle.xod_journal.specs.declared.journal.JournalEntry.{JournalEntry}
 use Rattle.xod_print.specs.Texts.{answer_line, cause_text}
-use Rattle.xod_session.specs.States.{Answered, Said}
+use Rattle.xod_session.specs.States.{Answered}
 use Rattle.xod_session.specs.World.{Player, World}
 
 -- ---- sessions

@@ -1,6 +1,6 @@
 -- Variables, and how the ids that they name come into statements and queries.
 use Rattle.std.specs.Prelude.{ℕ, ◌+◌, ◌==◌, List, [], ◌∷◌, map, Option, Some, None, is_some, unwrap_or, if◌then◌else◌}
-use Rattle.std.specs.FinMap.{FinMap, get, insert}
+use Rattle.std.specs.FinMap.{FinMap, get}
 use Rattle.xod_base.specs.declared.value.EntityId.{EntityId}
 use Rattle.xod_base.specs.declared.query.Query.{Query, roll-Query}
 use Rattle.xod_base.specs.declared.query.Query.TheOpen.{Query-F}

@@ -44,7 +44,8 @@ pub enum Progress {
     Finished,
 }
 
-/// A session. Its open transaction has to be given back, by `finish`.
+/// A session. An open transaction that is not `Drop` has to be given back, by `finish`.
+#[derive(Drop)]
 pub struct Session<O> {
     pub(crate) actor: u32,
     pub(crate) course: Course,

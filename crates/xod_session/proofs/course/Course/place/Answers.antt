@@ -2,7 +2,6 @@ use Rattle.std.proofs.Common.{◌≡◌, ◌∙◌, Some, refl, ap, sym, subst, 
 use Rattle.std.specs.List.{slice_get}
 use Rattle.xod_session.specs.contracts.course.Course as course
 use Rattle.xod_session.specs.Courses.{CourseView, IsCourse, IsReady, IsWithin, course_placed, place_behind, spot_place}
-use Rattle.xod_session.specs.Turns.{asks_then}
 use Rattle.xod_session.proofs.CourseLemmas.{placed-course, spot-placed}
 use Rattle.xod_session.proofs.course.Course.place.Goals as goal
 

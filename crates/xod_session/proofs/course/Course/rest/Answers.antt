@@ -1,4 +1,4 @@
-use Rattle.std.proofs.Common.{◌≡◌, ◌∙◌, drop, ap, sym, subst, IsTrue}
+use Rattle.std.proofs.Common.{◌∙◌, drop, ap, sym, subst, IsTrue}
 use Rattle.xod_session.specs.Scripts.{are_named}
 use Rattle.xod_session.proofs.AgreeLemmas.{are_named-drop}
 use Rattle.xod_session.proofs.course.Course.rest.Goals as goal

@@ -1,4 +1,4 @@
-use Rattle.std.proofs.Common.{◌≡◌, ◌≤◌, ◌-◌, ◌+◌, ◌∙◌, ℕ, arith, length, drop, ap, sym, subst}
+use Rattle.std.proofs.Common.{◌≡◌, ◌≤◌, ◌-◌, ◌+◌, ◌∙◌, arith, length, drop, ap, sym, subst}
 use Rattle.std.proofs.lemmas.List.{drop-drop, length-drop}
 use Rattle.xod_session.specs.contracts.course.Course as course
 use Rattle.xod_session.specs.Courses.{CourseView, IsCourse, skipped}

@@ -1,5 +1,5 @@
 use mathlib.Core.Path.{transport}
-use Rattle.std.proofs.Common.{◌≡◌, ◌∙◌, ◌∷◌, [], false, true, refl, ap, sym, append-nil}
+use Rattle.std.proofs.Common.{◌∙◌, ◌∷◌, [], ap, sym, append-nil}
 use Rattle.std.proofs.lemmas.Bool.{false≢true}
 use Rattle.xod_base.specs.declared.causes.Cause.TheVariants as cause
 use Rattle.xod_journal.specs.declared.journal.Origin.TheVariants.{Left}

@@ -1,4 +1,3 @@
-use Rattle.std.proofs.Common.{◌≡◌, true, false}
 use Rattle.std.specs.Prelude.{not}
 use Rattle.xod_journal.specs.declared.journal.Origin.TheVariants.{Order}
 use Rattle.xod_journal.specs.Spaces.{faults_in}

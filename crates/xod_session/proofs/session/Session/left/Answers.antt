@@ -1,6 +1,5 @@
-use Rattle.std.proofs.Common.{◌≡◌, ◌∙◌, true, false, ap, sym}
-use Rattle.std.specs.Prelude.{is_some, not}
-use Rattle.xod_lang.specs.declared.script.Statement.{Statement}
+use Rattle.std.proofs.Common.{◌∙◌, ap, sym}
+use Rattle.std.specs.Prelude.{not}
 use Rattle.xod_session.specs.Answers.{first_line}
 use Rattle.xod_session.proofs.CourseLemmas.{ended-closed, first_is, none-first}
 use Rattle.xod_session.proofs.session.Session.left.Goals as goal

@@ -1,5 +1,5 @@
 use mathlib.Core.Path.{transport}
-use Rattle.std.proofs.Common.{◌≡◌, None, refl, subst, sym}
+use Rattle.std.proofs.Common.{None, refl, subst, sym}
 use Rattle.xod_session.specs.Courses.{IsCourse}
 use Rattle.xod_session.specs.Dialogues.{Prints, printed_of}
 use Rattle.xod_session.specs.Seats.{PlaysAs}

@@ -1,7 +1,6 @@
 use mathlib.Core.Path.{transport}
-use Rattle.std.proofs.Common.{◌≡◌, sym, ap}
-use Rattle.xod_session.specs.Dialogues.{Printed}
-use Rattle.xod_session.specs.Seats.{PlaysAs, SessionView, view_of}
+use Rattle.std.proofs.Common.{sym}
+use Rattle.xod_session.specs.Seats.{PlaysAs, view_of}
 use Rattle.xod_session.proofs.PlaysLemmas.{handed-out}
 use Rattle.xod_session.proofs.session.Session.next_missed.Goals as goal
 

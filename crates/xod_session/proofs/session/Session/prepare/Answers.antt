@@ -1,8 +1,7 @@
 use mathlib.Core.Path.{transport}
-use Rattle.std.proofs.Common.{◌≡◌, ◌≤◌, ◌∙◌, Some, None, false, refl, ap, subst, sym, arith, drop}
+use Rattle.std.proofs.Common.{◌≡◌, ◌∙◌, Some, refl, ap, subst, sym, arith, drop}
 use Rattle.std.specs.Prelude.{is_some}
-use Rattle.xod_lang.specs.declared.script.Statement.{Statement}
-use Rattle.xod_session.specs.Answers.{AnswersRow, IsHaltedAt, count_until}
+use Rattle.xod_session.specs.Answers.{AnswersRow, count_until}
 use Rattle.xod_session.specs.Courses.{CourseView, IsReady, skipped}
 use Rattle.xod_session.specs.Seats.{PlaysAs, view_of}
 use Rattle.xod_session.specs.Sessions.{private_count}
@@ -44,7 +43,7 @@ returns-clause-prepares g c =
     record {
       same = record { actor = refl; script = ap (λ (v : CourseView). v.script) c.skip.ensures };
       stopped = ap (λ (v : CourseView). v.place.stopped) c.skip.ensures;
-      course = λ going free. c.skip.ensures ∙ ap (skipped course) (reaches c.args.until rest _ c.answer_row-row.result r.within r.halted free).0;
+      course = λ going free. c.skip.ensures ∙ ap (skipped course) (reaches c.args.until rest _ _ c.answer_row-row.result r.within r.halted free).0;
       prepared = λ is going free. ap (λ (v : CourseView). private_count v.place.rest) c.skip.ensures
-          ∙ subst (λ u. count_until u (drop c.answer_row-row.result.count rest) ≡ 0) is (reaches c.args.until rest _ c.answer_row-row.result r.within r.halted free).1;
+          ∙ subst (λ u. count_until u (drop c.answer_row-row.result.count rest) ≡ 0) is (reaches c.args.until rest _ _ c.answer_row-row.result r.within r.halted free).1;
     }

@@ -1,4 +1,4 @@
-use Rattle.std.proofs.Common.{◌≡◌, ◌∙◌, refl, sym}
+use Rattle.std.proofs.Common.{◌∙◌, refl, sym}
 use Rattle.xod_session.specs.Seats.{view_of}
 use Rattle.xod_session.proofs.CallLemmas.{finishes}
 use Rattle.xod_session.proofs.PlaysLemmas.{met-stoppable}

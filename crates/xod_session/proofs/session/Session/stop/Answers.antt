@@ -1,5 +1,5 @@
 use mathlib.Core.Path.{transport}
-use Rattle.std.proofs.Common.{◌≡◌, None, sym}
+use Rattle.std.proofs.Common.{None, sym}
 use Rattle.xod_session.specs.Seats.{PlaysAs, view_of}
 use Rattle.xod_session.proofs.PlaysLemmas.{stopped}
 use Rattle.xod_session.proofs.session.Session.stop.Goals as goal

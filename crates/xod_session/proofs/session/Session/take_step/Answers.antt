@@ -1,22 +1,18 @@
 use mathlib.Core.Path.{transport}
-use Rattle.std.proofs.Common.{◌≡◌, ◌∙◌, ◌∷◌, [], None, Some, false, refl, ap, sym, subst, append-nil, drop}
+use Rattle.std.proofs.Common.{◌≡◌, ◌∙◌, ◌∷◌, [], Some, false, refl, ap, sym, subst, append-nil, drop}
 use Rattle.std.specs.Prelude.{ℕ, is_some}
 use Rattle.xod_base.specs.declared.causes.Cause.TheVariants as cause
 use Rattle.xod_journal.specs.declared.journal.Origin.TheVariants.{Run}
-use Rattle.xod_journal.specs.declared.journal.Step.TheVariants as step
-use Rattle.xod_journal.specs.Seats.{entered}
-use Rattle.xod_lang.specs.declared.script.Statement.{Statement}
 use Rattle.xod_session.specs.declared.course.SharedStep.{SharedStep}
-use Rattle.xod_session.specs.Calls.{HasStepped, HasStopped, front_of}
+use Rattle.xod_session.specs.Calls.{front_of}
 use Rattle.xod_session.specs.Courses.{CourseView, IsCourse, StopsAt, answered_count, front_asked}
-use Rattle.xod_session.specs.Dialogues.{line_printed, printed_of}
-use Rattle.xod_session.specs.Seats.{IsStoppable, PlaysAs, SessionView, view_of}
+use Rattle.xod_session.specs.Dialogues.{line_printed}
+use Rattle.xod_session.specs.Seats.{IsStoppable, PlaysAs, view_of}
 use Rattle.xod_session.specs.Sessions.{private_count}
 use Rattle.xod_session.specs.Steps.{IsHeld}
-use Rattle.xod_session.proofs.CallLemmas.{comes, has_stopped}
+use Rattle.xod_session.proofs.CallLemmas.{comes, flush-alone, has_stopped}
 use Rattle.xod_session.proofs.CourseLemmas.{front-is, front-stops}
 use Rattle.xod_session.proofs.PlaysLemmas.{behind_fresh, behind_going, faulted, held, kept, open_behind, refused, stepped, stoppable}
-use Rattle.xod_session.proofs.session.Session.take_step.Given as given
 use Rattle.xod_session.proofs.session.Session.take_step.Goals as goal
 
 -- the next statement asks for the step
@@ -40,7 +36,7 @@ stop-requires g c =
 pub returns-then-is_err-clause-came : goal.returns-then-is_err-clause-came
 returns-then-is_err-clause-came g c =
     has_stopped g.O.Local.faults (g.S.Space.view c.args.space.now) c.args.self.now c.requires.going c.requires.free c.args.line c.args.asked c.requires.front (g.S.Space.view c.args.space.now) (g.S.Space.view c.stop.new.space) c.stop.new.self [] c.args.self.now.txn c.args.self.now.txn cause.Memory
-    refl c.stop.ensures.keeps (sym (append-nil _)) tt c.stop.ensures.halts.entry c.stop.ensures.halts.stopped
+    refl c.stop.ensures.keeps (sym (append-nil _)) tt tt c.stop.ensures.halts.entry c.stop.ensures.halts.stopped
 
 pub take-requires-2-clause-held : goal.take-requires-2-clause-held
 take-requires-2-clause-held g c =
@@ -96,7 +92,8 @@ stop-requires-in-Done g c =
 pub returns-in-Some-clause-came : goal.returns-in-Some-clause-came
 returns-in-Some-clause-came g c =
     has_stopped g.O.Local.faults (g.S.Space.view c.args.space.now) c.args.self.now c.requires.going c.requires.free c.args.line c.args.asked c.requires.front (g.S.Space.view c.take-2.new.space) (g.S.Space.view c.stop-in-Done.new.space) c.stop-in-Done.new.self (c.in-Done.ensures.taken.step ∷ []) c.take.result c.in-Done.txn c.in-Some.cause
-    c.take.ensures.value c.stop-in-Done.ensures.keeps c.in-Done.ensures.taken.entry (c.in-Done.ensures.taken.faulted c.in-Some.cause c.in-Some.is).why c.stop-in-Done.ensures.halts.entry c.stop-in-Done.ensures.halts.stopped
+    c.take.ensures.value c.stop-in-Done.ensures.keeps c.in-Done.ensures.taken.entry (flush-alone g.O.Local.faults (g.S.Space.view c.args.space.now) c.args.self.now c.requires.going c.requires.free c.args.line c.args.asked c.requires.front c.in-Done.ensures.taken.step c.in-Done.ensures.taken.kind (c.in-Done.ensures.taken.faulted c.in-Some.cause c.in-Some.is).flushes)
+    (c.in-Done.ensures.taken.faulted c.in-Some.cause c.in-Some.is).why c.stop-in-Done.ensures.halts.entry c.stop-in-Done.ensures.halts.stopped
 
 -- ---- a step that was not taken
 
@@ -110,7 +107,7 @@ stop-requires-in-Refused g c =
 pub returns-in-Refused-clause-came : goal.returns-in-Refused-clause-came
 returns-in-Refused-clause-came g c =
     has_stopped g.O.Local.faults (g.S.Space.view c.args.space.now) c.args.self.now c.requires.going c.requires.free c.args.line c.args.asked c.requires.front (g.S.Space.view c.take-2.new.space) (g.S.Space.view c.stop-in-Refused.new.space) c.stop-in-Refused.new.self [] c.take.result c.in-Refused.txn c.in-Refused.cause
-    c.take.ensures.value c.stop-in-Refused.ensures.keeps (c.in-Refused.ensures.taken.same ∙ sym (append-nil _)) c.in-Refused.ensures.taken.why c.stop-in-Refused.ensures.halts.entry c.stop-in-Refused.ensures.halts.stopped
+    c.take.ensures.value c.stop-in-Refused.ensures.keeps (c.in-Refused.ensures.taken.same ∙ sym (append-nil _)) tt c.in-Refused.ensures.taken.why c.stop-in-Refused.ensures.halts.entry c.stop-in-Refused.ensures.halts.stopped
 
 pub returns-in-Busy-clause-plays : goal.returns-in-Busy-clause-plays
 returns-in-Busy-clause-plays g c =

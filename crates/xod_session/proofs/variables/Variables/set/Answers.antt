@@ -1,6 +1,5 @@
-use Rattle.std.proofs.Common.{◌∙◌, ap, sym}
+use Rattle.std.proofs.Common.{◌∙◌}
 use Rattle.std.specs.FinMap.{insert}
-use Rattle.xod_session.specs.Variables.{Variables}
 use Rattle.xod_session.proofs.VariableLemmas.{set_entries}
 use Rattle.xod_session.proofs.variables.Variables.set.Goals as goal
 
