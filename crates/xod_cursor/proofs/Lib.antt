@@ -1,0 +1,10 @@
+pub mod Beginnings
+pub mod Children
+pub mod Counting
+pub mod Damaging
+pub mod Kept
+pub mod Passing
+pub mod Telling
+pub mod TrieEntries
+pub mod Walking
+pub mod Wanting
