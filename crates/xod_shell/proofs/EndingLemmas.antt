@@ -1,7 +1,6 @@
 -- When a run goes through to its end.
-use Rattle.std.proofs.Common.{◌≡◌, ◌≢◌, ℕ, ◌+◌, ◌≤◌, ◌<◌, Bool, true, false, cond, List, [], ◌∷◌, length, Option, Some, None, Result, Ok, Err, refl, sym, ap, subst, ◌∙◌, arith, inl, inr}
-use Rattle.std.specs.Prelude.{◌⊎◌, ◌||◌, ⊤}
-use Rattle.std.specs.List.{list_any}
+use Rattle.std.proofs.Common.{◌≡◌, ℕ, ◌<◌, Bool, true, false, cond, List, [], ◌∷◌, length, Result, Ok, Err, refl, sym, ap, subst, ◌∙◌, arith, inl, inr}
+use Rattle.std.specs.Prelude.{◌⊎◌, ◌||◌}
 use Rattle.std.proofs.lemmas.Bool.{false≢true}
 use Rattle.xod_base.specs.declared.limits.TheConstants.{INPUT_LIMIT}
 use Rattle.xod_base.specs.declared.causes.Cause.{Cause}
@@ -18,7 +17,7 @@ use Rattle.xod_shell.specs.declared.ending.Ending.{Ending}
 use Rattle.xod_shell.specs.declared.ending.Ending.TheVariants.{Usage, SourceFailed, TooLong, BadLine, Untaken, NoMemory, Printed}
 use Rattle.xod_shell.specs.Orders.{items_of, order_played}
 use Rattle.xod_shell.specs.Stops.{has_met, is_damage, is_disturbed, is_fault, is_memory, is_met, is_spent, status_after}
-use Rattle.xod_shell.specs.Endings.{Ends, Given, GoesThrough, IsAnswered, IsCause, IsDue, IsMet, IsPlayed, IsReadAs, IsTold, IsTranscript, IsUntaken, ReachesLast, Setting, Taken, status_of}
+use Rattle.xod_shell.specs.Endings.{Ends, Given, GoesThrough, IsAnswered, IsCause, IsMet, IsPlayed, IsReadAs, IsTold, IsUntaken, ReachesLast, Setting, Taken, status_of}
 
 -- ---- stops
 

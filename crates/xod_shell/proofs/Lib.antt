@@ -1,3 +1,13 @@
+pub mod AlikeLemmas
 pub mod EndingLemmas
+pub mod FollowLemmas
+pub mod FrontLemmas
 pub mod NamingLemmas
 pub mod OrderLemmas
+pub mod PlaceLemmas
+pub mod PlainLemmas
+pub mod PlayLemmas
+pub mod PlayerLemmas
+pub mod ReplayLemmas
+pub mod RoundLemmas
+pub mod SeatedLemmas

@@ -1,36 +1,32 @@
 -- A world over a journal that grows by one entry, and the items that make it.
-use Rattle.std.proofs.Common.{◌≡◌, ℕ, ◌+◌, ◌≤◌, Bool, true, false, cond, List, [], ◌∷◌, ◌++◌, map, Option, Some, None, refl, sym, ap, subst, ◌∙◌, eqb-true, eq-eqb, arith, suc, length, append-nil, Result, Ok, Err}
+use Rattle.std.proofs.Common.{◌≡◌, ℕ, ◌+◌, Bool, true, false, cond, List, [], ◌∷◌, ◌++◌, Option, Some, None, refl, sym, ap, ◌∙◌, eq-eqb, arith, suc, length, append-nil, Err}
 use Rattle.std.specs.Prelude.{option_and_then, option_map, ◌==◌, is_some}
 use Rattle.std.proofs.lemmas.Option.{none-some, same_Some}
 use Rattle.std.proofs.lemmas.Bool.{false≢true}
-use Rattle.xod_base.specs.declared.query.Mode.{Mode}
 use Rattle.xod_lang.specs.declared.script.Item.{Item}
 use Rattle.xod_lang.specs.declared.script.Item.TheVariants.{Turn}
-use Rattle.xod_lang.specs.declared.script.SessionScript.{SessionScript}
 use Rattle.xod_lang.specs.declared.script.Statement.{Statement}
 use Rattle.xod_lang.specs.declared.script.Turned.{Turned as TurnOf}
-use Rattle.xod_journal.specs.declared.change.RowChange.{RowChange}
 use Rattle.xod_journal.specs.declared.journal.JournalEntry.{JournalEntry}
 use Rattle.xod_journal.specs.declared.journal.Step.{Step}
 use Rattle.xod_journal.specs.declared.journal.Step.TheVariants as step
 use Rattle.xod_journal.specs.Books.{version_of, same_version}
 use Rattle.xod_journal.specs.Laws.{SameIsEqual}
-use Rattle.xod_journal.specs.Standing.{Newest, Standing, after, after_step, opening, newest_after}
+use Rattle.xod_journal.specs.Standing.{Newest, Standing, after, after_step}
 use Rattle.xod_journal.specs.Txns.{OpenTxn}
 use Rattle.xod_journal.proofs.CallerLemmas.{after-append, after-newest}
 use Rattle.xod_session.specs.declared.course.SharedStep.{SharedStep}
 use Rattle.xod_session.specs.declared.course.SharedStep.TheVariants as shared
 use Rattle.xod_session.specs.Laws.{without_origin}
 use Rattle.xod_session.specs.Sessions.{entry_seen, front_taken, readied, session_after, session_step, stepped}
-use Rattle.xod_session.specs.States.{SessionState, opened}
+use Rattle.xod_session.specs.States.{SessionState}
 use Rattle.xod_session.specs.Transcripts.{turned_of}
-use Rattle.xod_session.specs.Turns.{Turned, asks_then, flush_there, same_changes, same_mode, turned}
+use Rattle.xod_session.specs.Turns.{Turned, asks_then, flush_there, same_changes, turned}
 use Rattle.xod_shell.specs.Orders.{ended, item_played, order_played, played_from}
 use Rattle.xod_session.specs.World.{Player, Played, all_taken, World, beside, entry_of, front_made, in_front, made_of, newest_in, player_of, players_step, session_of, step_made, step_of, taken, turn_made, world_after, world_at, world_step, world_with, actor_named}
-use Rattle.xod_session.proofs.OptionLemmas.{then_some, map_some, both_true, let_through}
+use Rattle.xod_session.proofs.OptionLemmas.{both_true, let_through}
 use Rattle.xod_session.proofs.SameLemmas.{same_changes-is, same_mode-is, same_version-is}
 use Rattle.xod_session.proofs.SessionLemmas.{session_after-append}
-use Rattle.xod_session.proofs.WorldLemmas.{Grown, players_stepped, players_step-names, world_stepped, world_after-append}
 
 -- ---- an entry more
 

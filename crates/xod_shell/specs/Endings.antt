@@ -1,5 +1,5 @@
 -- How a run of `xod replay` ends: with which status and text, and for which cause.
-use Rattle.std.specs.Prelude.{◌≡◌, ⊤, ℕ, ◌+◌, ◌-◌, ◌^◌, ◌≤◌, Bool, true, false, List, [], ◌∷◌, ◌++◌, ◌⊎◌, length, map, codes, Option, Some, None, Result, Ok, Err, IsTrue}
+use Rattle.std.specs.Prelude.{◌≡◌, ⊤, ℕ, ◌+◌, ◌-◌, ◌^◌, ◌≤◌, Bool, true, false, List, [], ◌∷◌, ◌++◌, ◌⊎◌, length, map, codes, Option, Some, Result, Ok, Err}
 use Rattle.std.specs.Fmt.{decimal}
 use Rattle.std.specs.Io.KnownBytes.{Appends}
 use Rattle.xod_base.specs.Causes.{Rose}
@@ -15,6 +15,7 @@ use Rattle.xod_session.specs.World.{Played, World, world_after, world_at}
 use Rattle.xod_session.specs.Transcripts.{item_of, names_of, transcript_of}
 use Rattle.xod_shell.specs.declared.ending.Ending.{Ending}
 use Rattle.xod_shell.specs.declared.ending.Ending.TheVariants.{Usage, SourceFailed, TooLong, BadLine, Untaken, NoMemory, Printed}
+use Rattle.xod_shell.specs.Follows.{Follows, StopsAt}
 use Rattle.xod_shell.specs.Orders.{is_finished, items_of, order_played}
 use Rattle.xod_shell.specs.Stops.{has_met, is_damage, is_disturbed, is_fault, is_memory, is_spent, status_after}
 
@@ -101,8 +102,9 @@ pub record IsMet (setting : Setting) (script : Script) (journal : List JournalEn
   pub no_damage : has_met is_damage journal ≡ false
   pub spent : has_met is_spent journal ≡ true → ReachesLast setting script
 
--- There is a journal, legal and finished for the sessions of a script, and what was printed is its transcript. The status
--- is that of the stops that this run met; where there are none, the journal is the order of the script, whole.
+-- There is a journal, legal and finished for the sessions of a script, and what was printed is its transcript. The journal
+-- follows the order: stops that this run met are put in, and behind one the items of its session are passed over, and no
+-- others. The status is that of these stops; where there are none, the journal is the order of the script, whole.
 pub record IsTranscript (setting : Setting) (script : Script) (status : ℕ) (text : List ℕ) : Type 0 where
   pub world : World
   pub journal : List JournalEntry
@@ -111,14 +113,17 @@ pub record IsTranscript (setting : Setting) (script : Script) (status : ℕ) (te
   pub exact : text ≡ transcript_of world journal setting.files
   pub status_is : status ≡ status_after journal
   pub met : IsMet setting script journal
+  pub follows : Follows (names_in setting script) (items_of script.order) journal []
   pub whole : is_disturbed journal ≡ false → map (item_of (names_in setting script)) journal ≡ items_of script.order
 
--- There is a legal journal behind which an item can't be taken. Where this run met no stop before, it is the order's
--- first such item, or the one past the last where a session is not over. A run that wants memory tells that instead.
+-- There is a legal journal that follows the order up to an item, which is not passed over and can't be taken; or up to its
+-- end, where a session is not over. Where this run met no stop before, the item is the order's first such one, by the order
+-- alone. A run that wants memory tells that instead.
 pub record IsUntaken (setting : Setting) (script : Script) (item : ℕ) : Type 0 where
   pub world : World
   pub journal : List JournalEntry
   pub legal : world_after (Some (world_at setting.start script.sessions)) journal ≡ Some world
+  pub stops : StopsAt world journal (items_of script.order) item
   pub first : is_disturbed journal ≡ false → order_played (world_at setting.start script.sessions) (items_of script.order) ≡ Err item
   pub met : IsMet setting script journal
   pub no_memory : has_met is_memory journal ≡ false

@@ -1,3 +1,8 @@
 pub mod Endings
+pub mod Follows
 pub mod Orders
+pub mod Places
+pub mod Players
+pub mod Rounds
 pub mod Stops
+pub mod Told

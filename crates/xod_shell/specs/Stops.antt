@@ -1,5 +1,5 @@
 -- The stops of a journal that this run met, and what they make of its status.
-use Rattle.std.specs.Prelude.{ℕ, Bool, true, false, ◌||◌, List, if◌then◌else◌}
+use Rattle.std.specs.Prelude.{ℕ, Bool, true, false, List, if◌then◌else◌}
 use Rattle.std.specs.List.{list_any}
 use Rattle.xod_base.specs.declared.causes.Cause.{Cause}
 use Rattle.xod_base.specs.declared.causes.Cause.TheVariants.{Device, Broken, Damaged, Spent, Memory}

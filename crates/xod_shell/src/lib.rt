@@ -1,15 +1,20 @@
-//! What a run of the program ends with: endings, their texts and statuses, orders played to their end, the transcript.
+//! From the bytes of an input to the bytes of a transcript.
 //!
-//! What an ending says stands in `specs/Endings.antt`, how an order is played in `specs/Orders.antt`, which status the
-//! stops of a run make in `specs/Stops.antt`. The top call that plays an order is not there yet.
+//! A script is read, its sessions play its order over a store in lists, and the transcript is told. The top call puts
+//! this together; its contract says what a run of the program prints and with which status it ends. What an ending says
+//! stands in `specs/Endings.antt`, how an order is played in `specs/Orders.antt`, which status the stops of a run make in
+//! `specs/Stops.antt`.
 #![tactic(auto)]
 
 mod ending;
+mod play;
+mod player;
+mod quiet;
+mod replay;
 mod stops;
 mod telling;
 mod transcript;
 
 pub use ending::Ending;
-pub use stops::{status_after, wants_memory};
-pub use telling::{is_replay, tell};
-pub use transcript::{push_order, push_total};
+pub use quiet::{Outcome, xod_quiet};
+pub use telling::tell;

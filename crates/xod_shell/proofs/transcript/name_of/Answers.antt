@@ -1,4 +1,4 @@
-use Rattle.std.proofs.Common.{◌≡◌, ◌≤◌, ◌+◌, sym, ◌∙◌, arith, length}
+use Rattle.std.proofs.Common.{sym, ◌∙◌, arith}
 use Rattle.xod_shell.proofs.NamingLemmas.{name_at, name_before, name_past}
 use Rattle.xod_shell.proofs.transcript.name_of.Goals as goal
 
