@@ -3,7 +3,7 @@
 
     bench/measure.py [PROGRAM]
 
-The inputs are comment lines alone, and `set` lines in one transaction, of 4, 8 and 16 MiB.
+The inputs are comment lines alone, `set` lines in one transaction, and statements of many forms, of 4, 8 and 16 MiB.
 """
 import os
 import resource
@@ -27,6 +27,15 @@ def sets(size):
     return front + pair * ((size - len(front) - len(ORDER)) // len(pair)) + ORDER
 
 
+def mixed(size):
+    front = b"session a\nbegin\nnew T as $x\nnew T as $y\n"
+    block = (
+        b'set $x p 3\nset $x q "a text"\nlink $x l $y\nshow $x\nquery find T p 3\n'
+        b"count intersect all T with T q\nunlink $x l $y\nunset $x q\nset $x p 4\n"
+    )
+    return front + block * ((size - len(front) - len(ORDER)) // len(block)) + ORDER
+
+
 def measured(program, text):
     with tempfile.TemporaryFile() as source:
         source.write(text)
@@ -41,7 +50,7 @@ def main():
     here = os.path.dirname(os.path.dirname(os.path.abspath(__file__)))
     program = sys.argv[1] if len(sys.argv) > 1 else os.path.join(here, "crates/xod/out/xod")
     print("input     size MiB  seconds  peak MiB  peak/input  status")
-    for name, make in (("comments", comments), ("sets", sets)):
+    for name, make in (("comments", comments), ("sets", sets), ("mixed", mixed)):
         for size in (4, 8, 16):
             text = make(size * MIB)
             seconds, peak, status = measured(program, text)

@@ -1,3 +1,0 @@
-pub mod Outside
-pub mod Plan
-pub mod InMemory

@@ -1,5 +1,0 @@
-use Rattle.xod_first_model.proofs.SoundLemmas.{change_keeps_sound}
-use Rattle.xod_first_model.proofs.laws.changes_keep_sound.Goals as goal
-
-pub returns : goal.returns
-returns c = change_keeps_sound
