@@ -1,43 +1,40 @@
-//! How a test runs the top call, over a source and a sink in memory.
+//! What several tests make their inputs with.
+ghost use Rattle.std.specs.Prelude.{◌≡◌, IfOk, IsTrue};
+ghost use Rattle.xod_base.specs.Queries.{is_named};
+
 mod answers;
-mod faults;
-mod language;
-mod lines;
-mod orders;
-mod outside;
-mod plain_rows;
+mod handles;
 mod values;
 
 use std::alloc::Global;
 use std::test::Fail;
-use xod_first_io::{MemorySink, MemorySource};
-use xod_first_shell::{Outcome, xod_quiet};
+use xod_base::{EntityId, Query, Text};
+use xod_words::read_query;
 
-/// The status of a run of `replay` over an input, and what it wrote.
-#[derive(Drop)]
-pub(crate) struct Run {
-    pub status: u8,
-    pub text: Vec<u8>,
+/// What stands before the bar in a line of a table, and behind it.
+pub(crate) fn parted(line: &str) -> Result<(&str, &str), Fail> {
+    match line.split_once(" | ") {
+        Some(parts) => Ok(parts),
+        None => Err(Fail::from("a line without a bar")),
+    }
 }
 
-/// Runs `replay` over an input, with a source and a sink that fail at these calls.
-pub(crate) fn ran_with(
-    alloc: Global,
-    input: &[u8],
-    source_fails: &[u64],
-    sink_fails: &[u64],
-) -> Result<Run, Fail> {
-    let words = vec![in alloc; String::from_str(alloc, "replay")?]?;
-    let mut source = MemorySource::new(alloc, input, source_fails)?;
-    let mut sink = MemorySink::new(alloc, sink_fails)?;
-    let Outcome { status, volume: () } = xod_quiet(alloc, &words, &mut source, &mut sink, ());
-    Ok(Run {
-        status,
-        text: Vec::from_slice(alloc, sink.bytes())?,
-    })
+/// The text of bytes that are one.
+pub(crate) fn text(alloc: Global, bytes: &[u8]) -> Result<Text, Fail>
+    ensures { IfOk result (λ text. text ≡ bytes.now) }
+{
+    let text = Text::from_bytes(alloc, bytes)?.ok_or("these bytes are no text")?;
+    Ok(text)
 }
 
-/// Runs `replay` over an input without faults.
-pub(crate) fn ran(alloc: Global, input: &[u8]) -> Result<Run, Fail> {
-    ran_with(alloc, input, &[], &[])
+/// The query that words say.
+pub(crate) fn query(alloc: Global, words: &str) -> Result<Query, Fail>
+    ensures { IfOk result (λ query. IsTrue (is_named query)) }
+{
+    let query = read_query(alloc, words.as_bytes())?.ok_or("these words are no query")?;
+    Ok(query)
+}
+
+pub(crate) fn id(kind: u32, local: u32) -> EntityId {
+    EntityId { kind, local }
 }

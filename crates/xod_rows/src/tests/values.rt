@@ -1,38 +1,54 @@
-//! Keys and texts with bytes from the formats, and each call once where there is memory.
+//! Values by the bytes of their keys, texts, and lists of bytes and of ids.
+use super::{id, parted, text};
 use std::alloc::Global;
 use std::test::Fail;
-use xod_first_base::{Bytes, Text, Value, is_utf8};
+use xod_base::{Bytes, IdList, Memory, Text, Value, is_utf8, push_value};
+use xod_words::read_value;
 
-/// The text of bytes that are one.
-fn text_of(alloc: Global, bytes: &[u8]) -> Result<Text, Fail> {
-    let text = Text::from_bytes(alloc, bytes)?.ok_or("these bytes are no text")?;
-    Ok(text)
-}
+/// Values in their order, and behind a bar the bytes of their keys.
+const VALUES: &str = r#"false | 0100
+true | 0101
+-9223372036854775808 | 020000000000000000
+-1 | 027fffffffffffffff
+0 | 028000000000000000
+3 | 028000000000000003
+9223372036854775807 | 02ffffffffffffffff
+"" | 0300
+" " | 032000
+"@AZ[`az{" | 0340617a5b60617a7b00
+"A\\\"" | 03615c2200
+"ÜNAL" | 03c39c6e616c00
+"#;
 
-/// Whether a value has these key bytes.
-fn has_key(alloc: Global, value: &Value, key: &[u8]) -> Result<bool, Fail> {
-    let bytes = value.key_bytes(alloc)?;
-    Ok(bytes.as_slice() == key)
-}
-
-#[test]
-fn flags_and_integers_have_these_keys(rt: HostRuntime) -> Result<(), Fail> {
-    let alloc = rt.alloc();
-    assert!(rt; has_key(alloc, &Value::Flag(true), b"\x01\x01")?);
-    assert!(rt; has_key(alloc, &Value::Int(3), b"\x02\x80\0\0\0\0\0\0\x03")?);
-    assert!(rt; has_key(alloc, &Value::Int(i64::MIN), b"\x02\0\0\0\0\0\0\0\0")?);
+/// Puts bytes at the end, two digits for each.
+fn push_digits(alloc: Global, out: &mut Bytes, bytes: &[u8]) -> Result<(), Memory> {
+    for byte in bytes {
+        let digits = format!(in alloc; "{byte:02x}")?;
+        out.extend(digits.as_bytes())?;
+    }
     Ok(())
 }
 
+/// The value of a word as it is printed, and behind a bar its key.
+fn told(alloc: Global, word: &str) -> Result<Bytes, Fail> {
+    let value = read_value(alloc, word.as_bytes())?;
+    let key = value.key_bytes(alloc)?;
+    let mut out = Bytes::new(alloc);
+    push_value(alloc, &mut out, &value)?;
+    out.extend(b" | ")?;
+    push_digits(alloc, &mut out, key.as_slice())?;
+    Ok(out)
+}
+
 #[test]
-fn only_a_to_z_are_folded_in_a_key(rt: HostRuntime) -> Result<(), Fail> {
-    let alloc = rt.alloc();
-    for (text, key) in [
-        (b"\xc3\x9cnal".as_slice(), b"\x03\xc3\x9cnal\0".as_slice()),
-        (b"@AZ[`az{".as_slice(), b"\x03@az[`az{\0".as_slice()),
-    ] {
-        let value = Value::Text(text_of(alloc, text)?);
-        assert!(rt; has_key(alloc, &value, key)?, "at {text:?}");
+fn values_have_these_keys_and_are_printed_as_they_are_read(rt: HostRuntime) -> Result<(), Fail> {
+    let mut before: &[u8] = b"";
+    for line in VALUES.lines() {
+        let (word, key) = parted(line)?;
+        let told = told(rt.alloc(), word)?;
+        assert!(rt; told.as_slice() == line.as_bytes(), "{line}");
+        assert!(rt; before < key.as_bytes(), "{line}");
+        before = key.as_bytes();
     }
     Ok(())
 }
@@ -40,11 +56,14 @@ fn only_a_to_z_are_folded_in_a_key(rt: HostRuntime) -> Result<(), Fail> {
 #[test]
 fn a_text_is_utf8_without_control_characters(rt: HostRuntime) -> Result<(), Fail> {
     for (bytes, is_text) in [
+        (b"".as_slice(), true),
         (b"a b".as_slice(), true),
         (b"\xc2\x80".as_slice(), true),
         (b"\x1f".as_slice(), false),
+        (b"a\tb".as_slice(), false),
         (b"\x7f".as_slice(), false),
         (b"\xff".as_slice(), false),
+        (b"\xc3".as_slice(), false),
     ] {
         let found = Text::from_bytes(rt.alloc(), bytes)?;
         assert_eq!(rt; found.is_some(), is_text, "at {bytes:?}");
@@ -55,7 +74,23 @@ fn a_text_is_utf8_without_control_characters(rt: HostRuntime) -> Result<(), Fail
 }
 
 #[test]
-fn a_list_grows_at_its_end(rt: HostRuntime) -> Result<(), Fail> {
+fn texts_and_values_that_differ_in_case_are_not_the_same(rt: HostRuntime) -> Result<(), Fail> {
+    let alloc = rt.alloc();
+    let large = text(alloc, b"Ab")?;
+    let small = text(alloc, b"ab")?;
+    assert!(rt; !large.same(&small));
+    assert_eq!(rt; large.len(), 2);
+    let copy = large.try_clone(alloc)?;
+    assert_eq!(rt; copy.as_bytes(), b"Ab".as_slice());
+    let value = Value::Text(large);
+    assert!(rt; !value.same(&Value::Text(small)));
+    assert!(rt; value.try_clone(alloc)?.same(&value));
+    assert!(rt; !Value::Flag(true).same(&Value::Int(1)));
+    Ok(())
+}
+
+#[test]
+fn a_list_of_bytes_grows_at_its_end(rt: HostRuntime) -> Result<(), Fail> {
     let mut list = Bytes::new(rt.alloc());
     assert!(rt; list.is_empty());
     list.push(1)?;
@@ -71,15 +106,23 @@ fn a_list_grows_at_its_end(rt: HostRuntime) -> Result<(), Fail> {
 }
 
 #[test]
-fn texts_that_differ_in_case_are_not_the_same(rt: HostRuntime) -> Result<(), Fail> {
-    let large = text_of(rt.alloc(), b"Ab")?;
-    let small = text_of(rt.alloc(), b"ab")?;
-    assert!(rt; !large.same(&small));
-    assert_eq!(rt; large.len(), 2);
-    let copy = large.try_clone(rt.alloc())?;
-    assert_eq!(rt; copy.as_bytes(), b"Ab".as_slice());
-    let value = Value::Text(large);
-    assert!(rt; !value.same(&Value::Text(small)));
-    assert!(rt; value.try_clone(rt.alloc())?.same(&value));
+fn a_list_of_ids_is_a_list_of_numbers(rt: HostRuntime) -> Result<(), Fail> {
+    let mut ids = IdList::new(rt.alloc());
+    assert!(rt; ids.is_empty());
+    ids.push(id(1, 0))?;
+    ids.push(id(0, u32::MAX))?;
+    let numbers = [4_294_967_298].to_vec(rt.alloc())?;
+    let more = IdList::from_numbers(numbers);
+    assert_eq!(rt; more.get(0), Some(id(1, 2)));
+    assert_eq!(rt; more.get(1), None);
+    ids.append(&more)?;
+    assert_eq!(rt; ids.len(), 3);
+    assert_eq!(rt;
+        ids.as_numbers(),
+        [4_294_967_296, 4_294_967_295, 4_294_967_298].as_slice()
+    );
+    let copy = ids.try_clone(rt.alloc())?;
+    assert!(rt; copy.same(&ids));
+    assert!(rt; !copy.same(&more));
     Ok(())
 }

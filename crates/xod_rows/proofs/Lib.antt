@@ -1,4 +1,0 @@
-pub mod Due
-pub mod Inputs
-pub mod OneEntry
-pub mod Played
