@@ -1,0 +1,5 @@
+mod Marked
+mod Merges
+mod Placed
+mod Trees
+mod Views

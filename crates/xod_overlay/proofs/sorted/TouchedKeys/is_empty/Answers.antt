@@ -1,0 +1,7 @@
+use Rattle.std.proofs.Common.{List, ap, ◌∙◌, length, ◌==◌}
+use Rattle.xod_overlay.specs.Marks.{Touch}
+use Rattle.xod_overlay.proofs.Trees.{is_empty_map}
+use Rattle.xod_overlay.proofs.sorted.TouchedKeys.is_empty.Goals as goal
+
+pub returns : goal.returns
+returns c = is_empty_map c.self.inside.touches.items _ _ c.self.invariant c.self.view_is (c.is_empty.ensures ∙ ap (λ (l : List Touch). length l == 0) c.as_slice.ensures.value)

@@ -1,0 +1,25 @@
+-- What a tree with touched keys has at each key, and what one touch more makes of it.
+use Rattle.std.specs.Prelude.{◌≡◌, ℕ, List, Some, None}
+use Rattle.std.specs.FinMap.{empty, get, insert, remove}
+use Rattle.std.specs.Option.{unwrap_or}
+use Rattle.xod_base.specs.Views.{Tree}
+use Rattle.xod_overlay.specs.Marks.{TouchMap, overlaid}
+
+-- at a touched key stands its mark, and at each other key what stands below
+abbrev pub TouchedKeysDecide : Type 0
+TouchedKeysDecide = (base : Tree) (touches : TouchMap) (key : List ℕ)
+    → get (overlaid base touches) key ≡ unwrap_or (get touches key) (get base key)
+
+-- without touched keys a tree is the one below
+abbrev pub UntouchedIsBelow : Type 0
+UntouchedIsBelow = (base : Tree) → overlaid base empty ≡ base
+
+-- a put shows as a put into the tree
+abbrev pub PutsShow : Type 0
+PutsShow = (base : Tree) (touches : TouchMap) (key value : List ℕ)
+    → overlaid base (insert touches key (Some value)) ≡ insert (overlaid base touches) key value
+
+-- a removal shows as a removal from it
+abbrev pub RemovalsShow : Type 0
+RemovalsShow = (base : Tree) (touches : TouchMap) (key : List ℕ)
+    → overlaid base (insert touches key None) ≡ remove (overlaid base touches) key

@@ -1,0 +1,15 @@
+//! A transaction's own changes over a view of trees: touched keys, each with a value or a removal mark.
+//!
+//! An `Overlay` holds them, and `Overlaid` is the view of an overlay over another view. What a tree is with touched
+//! keys stands in `specs/Marks.antt`.
+#![tactic(auto)]
+
+mod laws;
+mod merging;
+mod overlaid;
+mod overlay;
+mod sorted;
+
+pub use laws::{puts_show, removals_show, touched_keys_decide, untouched_trees_are_those_below};
+pub use overlaid::Overlaid;
+pub use overlay::{Overlay, Touched};
