@@ -59,6 +59,7 @@ pub trait Lease {
             Filled (bytes_of (lent self.old) file) at out.old out.new n) }
         ensures counted { Rose (reads self.old) (reads self.new) }
         ensures failed { IsErr result → Rose (faults self.old) (faults self.new) }
+        ensures unfailed { OnOk result (faults self.new ≡ faults self.old) }
         ensures never_falls { faults self.old ≤ faults self.new }
         ensures tells_same { tells self.new ≡ tells self.old }
         ensures list_same { list self.new ≡ list self.old }
