@@ -23,6 +23,8 @@ pub use Rattle.xod_block.specs.Rising.{records_of-rises}
 pub use Rattle.xod_block.proofs.BodyLemmas.{records_of-at}
 pub use Rattle.xod_block.proofs.Growth.{record_in-past, growth-keeps, appended-grows, appended-keeps}
 pub use Rattle.xod_block.proofs.Longer.{record_in-more}
+-- the count of faults over calls in a row
+pub use Rattle.xod_block.proofs.Faults.{counts-first, counts-error, counts-ok, counts-memory}
 
 -- what a fetch put out is read as the record that it fetched
 pub Fetched-record_at : (tells : Bool) (stands : Option RecordValue) (old new : List ℕ) (count : ℕ) (f : Fetched tells stands old new count) → record_at (drop (length old) new) ≡ Some (f.value, count)

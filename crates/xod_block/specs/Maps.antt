@@ -1,8 +1,8 @@
 -- The map that a leaf or a node stands for, together with the records that it names.
-use Rattle.std.specs.Prelude.{◌≡◌, ◌≤◌, ℕ, zero, suc, nat_lt, if◌then◌else◌, List, [], ◌∷◌, ◌++◌, map, Option, Some, None, IfSome, IsTrue}
+use Rattle.std.specs.Prelude.{◌≡◌, ◌≤◌, ℕ, zero, suc, nat_lt, if◌then◌else◌, List, [], ◌∷◌, ◌++◌, length, map, Option, Some, None, IfSome, IsTrue}
 use Rattle.std.specs.Option.{option_map}
 use Rattle.xod_block.specs.Addresses.{number_of}
-use Rattle.xod_block.specs.Records.{Link, RecordValue, Leaf, Node, Root, rise}
+use Rattle.xod_block.specs.Records.{Link, RecordValue, Leaf, Node, Root, least_children, rise}
 
 -- what stands at an address, which is written as a number: a record, where one stands there whole
 abbrev pub RecordsAt : Type 0
@@ -17,6 +17,16 @@ HasRisingChildren (Root commit trees) = Unit {0}
 -- they do at each address
 abbrev pub RisesEverywhere : RecordsAt → Type 0
 RisesEverywhere records = (at : ℕ) → IfSome (records at) HasRisingChildren
+
+-- a node has a value and one child, or two children, at least
+abbrev pub HasEnoughChildren : RecordValue → Type 0
+HasEnoughChildren (Leaf key value) = Unit {0}
+HasEnoughChildren (Node key value children) = least_children value ≤ length children
+HasEnoughChildren (Root commit trees) = Unit {0}
+
+-- it does at each address
+abbrev pub BranchesEverywhere : RecordsAt → Type 0
+BranchesEverywhere records = (at : ℕ) → IfSome (records at) HasEnoughChildren
 
 -- a key and its value, for each key, by rising key
 abbrev pub Pairs : Type 0

@@ -62,9 +62,11 @@ impl Fetch for BodyFetch<'_> {
 
     ghost refs = { λ _. [] };
 
-    ghost use Rattle.xod_block.specs.Rising.{records_of-rises};
+    ghost use Rattle.xod_block.specs.Rising.{records_of-rises, records_of-branches};
 
     ghost rises = { λ fetch. records_of-rises (bodies_in fetch.bodies.now) };
+
+    ghost branches = { λ fetch. records_of-branches (bodies_in fetch.bodies.now) };
 
     fn fetch(&mut self, _alloc: Global, at: Address, out: &mut Bytes) -> Result<usize, ReadError> {
         let Some(bytes) = record_in(bytes_of(self.bodies, at.file), at.at) else {

@@ -4,12 +4,12 @@
 //! in a test. Trees, walks and moves know nothing else of files.
 ghost use base.Fml.{GName};
 ghost use Rattle.std.specs.Prelude.{◌≡◌, ◌≤◌, ℕ, Bool, IsTrue, IfOk, OnErr, List, Option, None};
-ghost use Rattle.xod_base.specs.Causes.{Rose};
 ghost use Rattle.xod_base.specs.declared.causes.Place.{Place};
-ghost use Rattle.xod_base.specs.declared.causes.ReadError.TheVariants.{Device, Damaged};
+ghost use Rattle.xod_base.specs.declared.causes.ReadError.TheVariants.{Damaged};
+ghost use Rattle.xod_base.specs.Views.{CountsFaults};
 ghost use Rattle.xod_block.specs.Addresses.{number_of};
 ghost use Rattle.xod_block.specs.Fetches.{Fetched, place_of};
-ghost use Rattle.xod_block.specs.Maps.{RisesEverywhere};
+ghost use Rattle.xod_block.specs.Maps.{BranchesEverywhere, RisesEverywhere};
 ghost use Rattle.xod_block.specs.Records.{RecordValue};
 
 use crate::address::Address;
@@ -34,8 +34,7 @@ pub trait Fetch {
     fn fetch(&mut self, alloc: Global, at: Address, out: &mut Bytes) -> Result<usize, ReadError>
         ensures found { IfOk result (λ count.
             Fetched (tells self.old) (records self.old (number_of at)) out.old out.new count) }
-        ensures device_only_after_a_fault { result ≡ Err Device
-            → Rose (faults self.old) (faults self.new) }
+        ensures counts { CountsFaults (faults self.old) (faults self.new) result }
         ensures damaged_only_without_a_record { IsTrue (tells self.old) → (place : Place)
             → result ≡ Err (Damaged place) → records self.old (number_of at) ≡ None }
         ensures damaged_names_this_place { (place : Place)
@@ -50,4 +49,7 @@ pub trait Fetch {
 
     // So the keys of its maps rise, also those that no call has looked at.
     ghost rises: { (fetch : Self) → RisesEverywhere (records fetch) };
+
+    // So no map is empty, and a map determines the shape of its trie.
+    ghost branches: { (fetch : Self) → BranchesEverywhere (records fetch) };
 }

@@ -2,7 +2,7 @@
 //!
 //! Each is a function that does nothing and ensures the law, so that a reader finds it among the contracts.
 ghost use Rattle.std.specs.Prelude.{◌≡◌, ◌<◌, ◌≤◌, ◌↔◌, ◌+◌, ◌*◌, ◌^◌, ◌++◌, length, List, [], ℕ, Some, IsSome, true};
-ghost use Rattle.xod_block.specs.Maps.{RecordsAt, RisesEverywhere, OnlyMore, Pairs, map_at, pairs_of};
+ghost use Rattle.xod_block.specs.Maps.{RecordsAt, BranchesEverywhere, RisesEverywhere, OnlyMore, Pairs, map_at, pairs_of};
 ghost use Rattle.std.specs.Ordering.{nat_cmp};
 ghost use Rattle.std.specs.Cmp.Lexicographic.{slice_cmp};
 ghost use Rattle.std.specs.FinMap.{is_sorted};
@@ -53,6 +53,11 @@ pub fn more_records_change_no_map()
 /// The child bytes of each node in bodies rise, whatever their bytes are.
 pub fn children_of_bodies_rise()
     ensures { (bodies : Bodies) → RisesEverywhere (records_of bodies) }
+{}
+
+/// Each node in bodies has a value and one child, or two children, whatever their bytes are.
+pub fn nodes_of_bodies_branch()
+    ensures { (bodies : Bodies) → BranchesEverywhere (records_of bodies) }
 {}
 
 /// Each record of bodies stays where they grow at their ends. So do their maps, by the law above.

@@ -22,7 +22,7 @@ pub use laws::{
     addresses_go_by_number, an_appended_block_is_read, children_of_bodies_rise,
     every_mark_comes_back, growing_bodies_keep_records, keys_of_a_map_rise,
     later_records_change_no_map, map_of_a_record, more_records_change_no_map,
-    no_spelling_begins_another,
+    no_spelling_begins_another, nodes_of_bodies_branch,
 };
 pub use link::{child_at, encode_link, link_at, link_count};
 pub use log_record::LogRecord;
