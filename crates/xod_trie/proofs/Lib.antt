@@ -5,5 +5,7 @@ pub mod Keys
 pub mod Leasts
 pub mod Lists
 pub mod Maps
+pub mod Shapes
+pub mod ShapesKeys
 pub mod Steps
 pub mod Values

@@ -6,11 +6,12 @@ ghost use Rattle.std.specs.FinMap.{get};
 ghost use Rattle.xod_base.specs.declared.causes.Place.{Place};
 ghost use Rattle.xod_block.specs.declared.address.Address.{Address};
 ghost use Rattle.xod_block.specs.Addresses.{number_of};
-ghost use Rattle.xod_block.specs.Maps.{RecordsAt, OnlyMore, map_at};
+ghost use Rattle.xod_block.specs.Maps.{RecordsAt, RisesEverywhere, BranchesEverywhere, OnlyMore, map_at};
 ghost use Rattle.xod_trie.specs.declared.branch.Branch.{Branch};
 ghost use Rattle.xod_trie.specs.Branches.{IsBranch, HaveChildren, branch_of, value_by};
 ghost use Rattle.xod_trie.specs.Damage.{IsDamaged};
 ghost use Rattle.xod_trie.specs.Least.{IsLeast, least, passes};
+ghost use Rattle.xod_trie.specs.Shapes.{HaveSameShape};
 ghost use Rattle.xod_trie.specs.Tries.{TrieMap, trie_map, value_at};
 
 /// Where there is a trie's map, it has at each key the value that the record of the root leads to.
@@ -55,4 +56,13 @@ pub fn least_is_the_least()
     ensures none { (strict : Bool) (key : List ℕ) (map : TrieMap) (other : List ℕ)
         → least strict key map ≡ None → IsSome (get map other)
         → IsTrue (passes strict key other) → ⊥ }
+{}
+
+/// Two tries with the same map have the same key parts, values and child bytes, from the roots down.
+pub fn the_map_determines_the_shape()
+    ensures { (ones others : RecordsAt) (at place : Option Address)
+        → RisesEverywhere ones → BranchesEverywhere ones
+        → RisesEverywhere others → BranchesEverywhere others
+        → IsSome (trie_map ones at) → trie_map others place ≡ trie_map ones at
+        → HaveSameShape ones others at place }
 {}

@@ -15,7 +15,8 @@ pub use branch::{Branch, BranchRef, Links, branch_in, copied, copied_branch};
 pub use child::{behind, child_in, child_of};
 pub use laws::{
     damaged_tries_have_no_map, least_is_the_least, map_by_the_children,
-    more_records_change_no_trie, tries_are_seen_by_their_values, value_by_the_branch,
+    more_records_change_no_trie, the_map_determines_the_shape, tries_are_seen_by_their_values,
+    value_by_the_branch,
 };
 pub use look::find;
 pub use read::{load, place_of, read_record};

@@ -1,9 +1,9 @@
 //! Look-up.
 ghost use Rattle.std.specs.Prelude.{◌≡◌, IsTrue, IsSome, IfOk, IfSome, Some};
 ghost use Rattle.std.specs.FinMap.{get};
-ghost use Rattle.xod_base.specs.Causes.{Rose};
 ghost use Rattle.xod_base.specs.declared.causes.Place.{Place};
-ghost use Rattle.xod_base.specs.declared.causes.ReadError.TheVariants.{Device, Damaged};
+ghost use Rattle.xod_base.specs.declared.causes.ReadError.TheVariants.{Damaged};
+ghost use Rattle.xod_base.specs.Views.{CountsFaults};
 ghost use Rattle.xod_block.specs.Addresses.{number_of};
 ghost use Rattle.xod_block.specs.Fetches.{Stays};
 ghost use Rattle.xod_block.specs.Maps.{map_at};
@@ -27,8 +27,7 @@ fn find_under<F: Fetch>(
     ensures value { IsTrue (F.tells fetch.old)
         → IsSome (map_at (F.records fetch.old) (number_of root)) → IfOk result (λ found.
         found ≡ value_at (F.records fetch.old) (number_of root) key.now) }
-    ensures device_only_after_a_fault { result ≡ Err Device
-        → Rose (F.faults fetch.old) (F.faults fetch.new) }
+    ensures counts { CountsFaults (F.faults fetch.old) (F.faults fetch.new) result }
     ensures damaged_only_where_bytes_are { IsTrue (F.tells fetch.old) → (place : Place)
         → result ≡ Err (Damaged place) → IsDamaged (F.records fetch.old) (Some root) place }
     ensures stays { Stays F.tells F.records F.refs F.faults fetch.old fetch.new }
@@ -63,8 +62,7 @@ pub fn find<F: Fetch>(
 ) -> Result<Option<Bytes>, ReadError>
     ensures value { IsTrue (F.tells fetch.old) → IfSome (trie_map (F.records fetch.old) root)
         (λ map. IfOk result (λ found. found ≡ get map key.now)) }
-    ensures device_only_after_a_fault { result ≡ Err Device
-        → Rose (F.faults fetch.old) (F.faults fetch.new) }
+    ensures counts { CountsFaults (F.faults fetch.old) (F.faults fetch.new) result }
     ensures damaged_only_where_bytes_are { IsTrue (F.tells fetch.old) → (place : Place)
         → result ≡ Err (Damaged place) → IsDamaged (F.records fetch.old) root place }
     ensures stays { Stays F.tells F.records F.refs F.faults fetch.old fetch.new }

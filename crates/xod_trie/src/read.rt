@@ -1,8 +1,8 @@
 //! Reading the record at an address.
 ghost use Rattle.std.specs.Prelude.{◌≡◌, [], IsTrue, IfOk, None};
-ghost use Rattle.xod_base.specs.Causes.{Rose};
 ghost use Rattle.xod_base.specs.declared.causes.Place.{Place};
-ghost use Rattle.xod_base.specs.declared.causes.ReadError.TheVariants.{Device, Damaged};
+ghost use Rattle.xod_base.specs.declared.causes.ReadError.TheVariants.{Damaged};
+ghost use Rattle.xod_base.specs.Views.{CountsFaults};
 ghost use Rattle.xod_block.specs.Addresses.{number_of};
 ghost use Rattle.xod_block.specs.Fetches.{Stays, place_of};
 ghost use Rattle.xod_block.specs.Reading.{record_in};
@@ -41,8 +41,7 @@ pub fn read_record<F: Fetch>(
 ) -> Result<Bytes, ReadError>
     ensures record { IsTrue (F.tells fetch.old) → IfOk result (λ bytes.
         record_in bytes ≡ F.records fetch.old (number_of at)) }
-    ensures device_only_after_a_fault { result ≡ Err Device
-        → Rose (F.faults fetch.old) (F.faults fetch.new) }
+    ensures counts { CountsFaults (F.faults fetch.old) (F.faults fetch.new) result }
     ensures damaged_only_without_a_record { IsTrue (F.tells fetch.old) → (place : Place)
         → result ≡ Err (Damaged place) → F.records fetch.old (number_of at) ≡ None }
     ensures damaged_names_this_place { (place : Place)
@@ -59,8 +58,7 @@ pub fn load<F: Fetch>(alloc: Global, fetch: &mut F, at: Address) -> Result<Branc
     ensures branch { IsTrue (F.tells fetch.old) → IfOk result
         (IsBranch (F.records fetch.old (number_of at))) }
     ensures fits { IfOk result FitsBranch }
-    ensures device_only_after_a_fault { result ≡ Err Device
-        → Rose (F.faults fetch.old) (F.faults fetch.new) }
+    ensures counts { CountsFaults (F.faults fetch.old) (F.faults fetch.new) result }
     ensures damaged_only_without_a_branch { IsTrue (F.tells fetch.old) → (place : Place)
         → result ≡ Err (Damaged place) → branch_of (F.records fetch.old (number_of at)) ≡ None }
     ensures damaged_names_this_place { (place : Place)
