@@ -1,8 +1,8 @@
 //! One step from a branch to a child of it.
 ghost use Rattle.std.specs.Prelude.{◌≡◌, ◌<◌, Option, IsTrue, IfOk, OnOk};
-ghost use Rattle.xod_base.specs.Causes.{Rose};
 ghost use Rattle.xod_base.specs.declared.causes.Place.{Place};
-ghost use Rattle.xod_base.specs.declared.causes.ReadError.TheVariants.{Device, Damaged};
+ghost use Rattle.xod_base.specs.declared.causes.ReadError.TheVariants.{Damaged};
+ghost use Rattle.xod_base.specs.Views.{CountsFaults};
 ghost use Rattle.xod_block.specs.declared.address.Address.{Address};
 ghost use Rattle.xod_block.specs.Addresses.{number_of};
 ghost use Rattle.xod_block.specs.Fetches.{Stays};
@@ -27,8 +27,7 @@ pub fn read_child<F: Fetch>(
     ensures record { IsTrue (F.tells fetch.old) → IfOk result (λ bytes.
         record_in bytes ≡ F.records fetch.old (number_of child)) }
     ensures below { OnOk result (number_of child < number_of parent) }
-    ensures device_only_after_a_fault { result ≡ Err Device
-        → Rose (F.faults fetch.old) (F.faults fetch.new) }
+    ensures counts { CountsFaults (F.faults fetch.old) (F.faults fetch.new) result }
     ensures damaged_only_where_bytes_are { IsTrue (F.tells fetch.old) → (root : Option Address)
         → IsReached (F.records fetch.old) root parent
         → Names (F.records fetch.old (number_of parent)) child → (place : Place)

@@ -1,9 +1,8 @@
 //! The way down to the least key below an address.
 ghost use Rattle.std.specs.Prelude.{◌≡◌, ℕ, List, Option, Some, IsTrue, IfOk};
-ghost use Rattle.xod_base.specs.Causes.{Rose};
 ghost use Rattle.xod_base.specs.declared.causes.Place.{Place};
-ghost use Rattle.xod_base.specs.declared.causes.ReadError.TheVariants.{Device, Damaged};
-ghost use Rattle.xod_base.specs.Views.{Entry};
+ghost use Rattle.xod_base.specs.declared.causes.ReadError.TheVariants.{Damaged};
+ghost use Rattle.xod_base.specs.Views.{CountsFaults, Entry};
 ghost use Rattle.xod_block.specs.declared.address.Address.{Address};
 ghost use Rattle.xod_block.specs.Addresses.{number_of};
 ghost use Rattle.xod_block.specs.Fetches.{Stays};
@@ -63,8 +62,7 @@ pub fn lowest<F: Fetch>(
         → record_in bytes ≡ F.records fetch.old (number_of at) → (entries : List Entry)
         → BeginsAt (F.records fetch.old) front (number_of at) entries
         → IfOk result (λ pair. first_pair entries ≡ Some pair) }
-    ensures device_only_after_a_fault { result ≡ Err Device
-        → Rose (F.faults fetch.old) (F.faults fetch.new) }
+    ensures counts { CountsFaults (F.faults fetch.old) (F.faults fetch.new) result }
     ensures damaged_only_where_bytes_are { IsTrue (F.tells fetch.old)
         → record_in bytes ≡ F.records fetch.old (number_of at) → (root : Option Address)
         → IsReached (F.records fetch.old) root at → (place : Place)

@@ -4,10 +4,9 @@
 //! From where the way ends, or from that place, it goes down to the least key. So it reads the records of a path and of
 //! a part of it, and copies nothing but the pair that it answers.
 ghost use Rattle.std.specs.Prelude.{◌≡◌, ◌++◌, ◌∷◌, [], ℕ, List, Option, Some, None, IsTrue, IfOk, IfSome, true, false};
-ghost use Rattle.xod_base.specs.Causes.{Rose};
 ghost use Rattle.xod_base.specs.declared.causes.Place.{Place};
-ghost use Rattle.xod_base.specs.declared.causes.ReadError.TheVariants.{Device, Damaged};
-ghost use Rattle.xod_base.specs.Views.{Entry, above, least_pair, not_below};
+ghost use Rattle.xod_base.specs.declared.causes.ReadError.TheVariants.{Damaged};
+ghost use Rattle.xod_base.specs.Views.{CountsFaults, Entry, above, least_pair, not_below};
 ghost use Rattle.xod_block.specs.declared.address.Address.{Address};
 ghost use Rattle.xod_block.specs.Addresses.{number_of};
 ghost use Rattle.xod_block.specs.Fetches.{Stays};
@@ -102,8 +101,7 @@ fn least_behind<F: Fetch>(
     ensures least { IsTrue (F.tells fetch.old) → (entries : List Entry)
         → IsBack (F.records fetch.old) back.entry entries
         → IfOk result (λ found. found ≡ first_pair entries) }
-    ensures device_only_after_a_fault { result ≡ Err Device
-        → Rose (F.faults fetch.old) (F.faults fetch.new) }
+    ensures counts { CountsFaults (F.faults fetch.old) (F.faults fetch.new) result }
     ensures damaged_only_where_bytes_are { IsTrue (F.tells fetch.old) → (root : Option Address)
         → IsBackReached (F.records fetch.old) root back.entry → (place : Place)
         → result ≡ Err (Damaged place) → IsDamaged (F.records fetch.old) root place }
@@ -132,8 +130,7 @@ fn least_here<F: Fetch>(
         → record_in bytes ≡ F.records fetch.old (number_of at) → (entries : List Entry)
         → BeginsAt (F.records fetch.old) front.now (number_of at) entries
         → IfOk result (λ found. found ≡ first_pair entries) }
-    ensures device_only_after_a_fault { result ≡ Err Device
-        → Rose (F.faults fetch.old) (F.faults fetch.new) }
+    ensures counts { CountsFaults (F.faults fetch.old) (F.faults fetch.new) result }
     ensures damaged_only_where_bytes_are { IsTrue (F.tells fetch.old)
         → record_in bytes ≡ F.records fetch.old (number_of at) → (root : Option Address)
         → IsReached (F.records fetch.old) root at → (place : Place)
@@ -156,8 +153,7 @@ fn walk_under<F: Fetch>(
     ensures least { IsTrue (F.tells fetch.old) → (pairs : Pairs)
         → map_at (F.records fetch.old) (number_of root) ≡ Some pairs
         → IfOk result (λ found. found ≡ first_pair (kept (passes strict key.now) pairs)) }
-    ensures device_only_after_a_fault { result ≡ Err Device
-        → Rose (F.faults fetch.old) (F.faults fetch.new) }
+    ensures counts { CountsFaults (F.faults fetch.old) (F.faults fetch.new) result }
     ensures damaged_only_where_bytes_are { IsTrue (F.tells fetch.old) → (place : Place)
         → result ≡ Err (Damaged place) → IsDamaged (F.records fetch.old) (Some root) place }
     ensures stays { Stays F.tells F.records F.refs F.faults fetch.old fetch.new }
@@ -195,8 +191,7 @@ fn walk<F: Fetch>(
 ) -> Result<Option<Pair>, ReadError>
     ensures least { IsTrue (F.tells fetch.old) → IfSome (trie_map (F.records fetch.old) root)
         (λ map. IfOk result (λ found. found ≡ least_pair (passes strict key.now) map)) }
-    ensures device_only_after_a_fault { result ≡ Err Device
-        → Rose (F.faults fetch.old) (F.faults fetch.new) }
+    ensures counts { CountsFaults (F.faults fetch.old) (F.faults fetch.new) result }
     ensures damaged_only_where_bytes_are { IsTrue (F.tells fetch.old) → (place : Place)
         → result ≡ Err (Damaged place) → IsDamaged (F.records fetch.old) root place }
     ensures stays { Stays F.tells F.records F.refs F.faults fetch.old fetch.new }
@@ -217,8 +212,7 @@ pub fn seek<F: Fetch>(
 ) -> Result<Option<Pair>, ReadError>
     ensures least { IsTrue (F.tells fetch.old) → IfSome (trie_map (F.records fetch.old) root)
         (λ map. IfOk result (λ found. found ≡ least_pair (not_below key.now) map)) }
-    ensures device_only_after_a_fault { result ≡ Err Device
-        → Rose (F.faults fetch.old) (F.faults fetch.new) }
+    ensures counts { CountsFaults (F.faults fetch.old) (F.faults fetch.new) result }
     ensures damaged_only_where_bytes_are { IsTrue (F.tells fetch.old) → (place : Place)
         → result ≡ Err (Damaged place) → IsDamaged (F.records fetch.old) root place }
     ensures stays { Stays F.tells F.records F.refs F.faults fetch.old fetch.new }
@@ -236,8 +230,7 @@ pub fn next<F: Fetch>(
 ) -> Result<Option<Pair>, ReadError>
     ensures least { IsTrue (F.tells fetch.old) → IfSome (trie_map (F.records fetch.old) root)
         (λ map. IfOk result (λ found. found ≡ least_pair (above key.now) map)) }
-    ensures device_only_after_a_fault { result ≡ Err Device
-        → Rose (F.faults fetch.old) (F.faults fetch.new) }
+    ensures counts { CountsFaults (F.faults fetch.old) (F.faults fetch.new) result }
     ensures damaged_only_where_bytes_are { IsTrue (F.tells fetch.old) → (place : Place)
         → result ≡ Err (Damaged place) → IsDamaged (F.records fetch.old) root place }
     ensures stays { Stays F.tells F.records F.refs F.faults fetch.old fetch.new }

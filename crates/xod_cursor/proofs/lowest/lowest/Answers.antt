@@ -38,6 +38,7 @@ down-preserved g c =
     let here : IsTrue (g.F.Fetch.tells c.args.fetch.now) → Known → record_in c.as_slice.result.now ≡ records at = λ told known. ap record_in c.as_slice.ensures ∙ c.down.invariant.read told known in
     record {
       stays = Stays-then c.down.invariant.stays c.read_child.ensures.stays;
+      no_fault = c.in_ok-bytes-in-Goes.ensures.counts.ok ∙ c.down.invariant.no_fault;
       read = λ told known. told-first (λ (r : RecordsAt). record_in c.in_ok-bytes-in-Goes.bytes ≡ r (number_of child)) c.down.invariant.stays c.in_ok-bytes-in-Goes.ensures.«record» told;
       reached = λ told known root reached. child-reached records root c.down.at child (c.down.invariant.reached told known root reached)
           (subst (λ (item : Option RecordValue). Names item child) (here told known) (subst (IsLowRead (record_in c.as_slice.result.now)) c.in-Goes.is c.in_ok-low_at.ensures.read));

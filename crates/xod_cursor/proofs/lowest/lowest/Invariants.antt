@@ -14,6 +14,7 @@ invariant-down g l =
     let KnownFirst = record_in l.initial.bytes ≡ records (number_of l.initial.at) in
     record {
       stays : Stays g.F.Fetch.tells g.F.Fetch.records g.F.Fetch.refs g.F.Fetch.faults l.initial.fetch l.fetch;
+      no_fault : g.F.Fetch.faults l.fetch ≡ g.F.Fetch.faults l.initial.fetch;
       read : IsTrue (g.F.Fetch.tells l.initial.fetch) → KnownFirst → record_in l.bytes ≡ records (number_of l.at);
       reached : IsTrue (g.F.Fetch.tells l.initial.fetch) → KnownFirst → (root : Option Address) → IsReached records root l.initial.at → IsReached records root l.at;
       begins : IsTrue (g.F.Fetch.tells l.initial.fetch) → KnownFirst → (entries : List Entry) → BeginsAt records l.initial.front (number_of l.initial.at) entries → BeginsAt records l.front (number_of l.at) entries;

@@ -24,6 +24,7 @@ returns-in_err-bytes-clause-damaged_only_where_bytes_are g c told place e =
 pub down-init : goal.down-init
 down-init g c = record {
   stays = c.read_record.ensures.stays;
+  no_fault = c.in_ok-bytes.ensures.counts.ok;
   read = c.in_ok-bytes.ensures.«record»;
   reached = λ told. AtRoot c.args.root refl;
   back_reached = λ told. tt;
@@ -50,6 +51,7 @@ down-preserved g c =
     let here : IsTrue (g.F.Fetch.tells c.args.fetch.now) → record_in c.as_slice.result.now ≡ records at = λ told. ap record_in c.as_slice.ensures ∙ c.down.invariant.read told in
     record {
       stays = Stays-then c.down.invariant.stays c.read_child.ensures.stays;
+      no_fault = c.in_ok-bytes-in-Into.ensures.counts.ok ∙ c.down.invariant.no_fault;
       read = λ told. told-first (λ (r : RecordsAt). record_in c.in_ok-bytes-in-Into.bytes ≡ r (number_of child)) c.down.invariant.stays c.in_ok-bytes-in-Into.ensures.«record» told;
       reached = λ told. child-reached records (Some c.args.root) c.down.at child (c.down.invariant.reached told) (subst (λ (item : Option RecordValue). Names item child) (here told) c.in-Into.ensures.read.1);
       back_reached = λ told. c.start_at-back.ensures.reached records (Some c.args.root) (c.down.invariant.reached told) (subst (λ (item : Option RecordValue). HasChildren item (links_in c.in-Into.onward.links.now)) (here told) c.in-Into.ensures.read.0) (c.down.invariant.back_reached told);

@@ -15,6 +15,7 @@ invariant-down g l =
     let Told = IsTrue (g.F.Fetch.tells l.fn.fetch) in
     record {
       stays : Stays g.F.Fetch.tells g.F.Fetch.records g.F.Fetch.refs g.F.Fetch.faults l.fn.fetch l.fetch;
+      no_fault : g.F.Fetch.faults l.fetch ≡ g.F.Fetch.faults l.fn.fetch;
       read : Told → record_in l.bytes ≡ records (number_of l.at);
       reached : Told → IsReached records (Some l.fn.root) l.at;
       back_reached : Told → IsBackReached records (Some l.fn.root) l.back;
