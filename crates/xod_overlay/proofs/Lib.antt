@@ -3,3 +3,4 @@ mod Merges
 mod Placed
 mod Trees
 mod Views
+mod Walked

@@ -10,6 +10,9 @@ mod overlaid;
 mod overlay;
 mod sorted;
 
-pub use laws::{puts_show, removals_show, touched_keys_decide, untouched_trees_are_those_below};
+pub use laws::{
+    puts_show, removals_show, touched_keys_decide, untouched_trees_are_those_below,
+    walks_meet_all_touches,
+};
 pub use overlaid::Overlaid;
 pub use overlay::{Overlay, Touched};
