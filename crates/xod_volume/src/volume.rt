@@ -98,6 +98,7 @@ pub trait Volume {
         ensures listed { IsTrue (tells self.old) → IfOk result (λ numbers.
             numbers.items ≡ keys (files self.old)) }
         ensures failed { IsErrOf result VolumeError.Failed → Rose (faults self.old) (faults self.new) }
+        ensures unfailed { OnOk result (faults self.new ≡ faults self.old) }
         ensures memory { IsErrOf result VolumeError.Memory → Unmoved (moment self.old) (moment self.new)
             (leases self.old) (leases self.new) (faults self.old) (faults self.new) }
         ensures stays { Stays (tells self.old) (tells self.new) (leases self.old) (leases self.new)
@@ -113,6 +114,7 @@ pub trait Volume {
         requires exists { IsTrue (tells self.old) → IsSome (get (files self.old) file) }
         ensures size { IsTrue (tells self.old) → IfOk result (λ n. n ≡ size_of (files self.old) file) }
         ensures failed { IsErr result → Rose (faults self.old) (faults self.new) }
+        ensures unfailed { OnOk result (faults self.new ≡ faults self.old) }
         ensures stays { Stays (tells self.old) (tells self.new) (leases self.old) (leases self.new)
             (refs self.old) (refs self.new) (faults self.old) (faults self.new) }
         ensures same { IsTrue (tells self.old) → files self.new ≡ files self.old }
@@ -127,6 +129,7 @@ pub trait Volume {
         ensures filled { IsTrue (tells self.old) → IfOk result (λ n.
             Filled (bytes_of (files self.old) file) at out.old out.new n) }
         ensures failed { IsErr result → Rose (faults self.old) (faults self.new) }
+        ensures unfailed { OnOk result (faults self.new ≡ faults self.old) }
         ensures stays { Stays (tells self.old) (tells self.new) (leases self.old) (leases self.new)
             (refs self.old) (refs self.new) (faults self.old) (faults self.new) }
         ensures same { IsTrue (tells self.old) → files self.new ≡ files self.old }
@@ -142,6 +145,7 @@ pub trait Volume {
             → OnOk result (files self.new ≡ insert (files self.old) file []) }
         ensures refused { IsTrue (tells self.old) → OnErr result (files self.new ≡ files self.old) }
         ensures failed { IsErrOf result VolumeError.Failed → Rose (faults self.old) (faults self.new) }
+        ensures unfailed { OnOk result (faults self.new ≡ faults self.old) }
         ensures memory { IsErrOf result VolumeError.Memory → Unmoved (moment self.old) (moment self.new)
             (leases self.old) (leases self.new) (faults self.old) (faults self.new) }
         ensures stays { Stays (tells self.old) (tells self.new) (leases self.old) (leases self.new)
@@ -166,6 +170,7 @@ pub trait Volume {
             (files self.old) (files self.new) }
         ensures unchanged { IsTrue (tells self.old) → IsErrOf result VolumeError.Memory → files self.new ≡ files self.old }
         ensures failed { IsErrOf result VolumeError.Failed → Rose (faults self.old) (faults self.new) }
+        ensures unfailed { OnOk result (faults self.new ≡ faults self.old) }
         ensures memory { IsErrOf result VolumeError.Memory → Unmoved (moment self.old) (moment self.new)
             (leases self.old) (leases self.new) (faults self.old) (faults self.new) }
         ensures stays { Stays (tells self.old) (tells self.new) (leases self.old) (leases self.new)
@@ -189,6 +194,7 @@ pub trait Volume {
         ensures torn { IsTrue (tells self.old) → OnFile file (OnBytes (Torn at (length bytes.now)))
             (files self.old) (files self.new) }
         ensures failed { IsErr result → Rose (faults self.old) (faults self.new) }
+        ensures unfailed { OnOk result (faults self.new ≡ faults self.old) }
         ensures stays { Stays (tells self.old) (tells self.new) (leases self.old) (leases self.new)
             (refs self.old) (refs self.new) (faults self.old) (faults self.new) }
 
@@ -208,6 +214,7 @@ pub trait Volume {
             ≡ insert (files self.old) file (take length (bytes_of (files self.old) file))) }
         ensures refused { IsTrue (tells self.old) → OnErr result (files self.new ≡ files self.old) }
         ensures failed { IsErr result → Rose (faults self.old) (faults self.new) }
+        ensures unfailed { OnOk result (faults self.new ≡ faults self.old) }
         ensures stays { Stays (tells self.old) (tells self.new) (leases self.old) (leases self.new)
             (refs self.old) (refs self.new) (faults self.old) (faults self.new) }
 
@@ -224,6 +231,7 @@ pub trait Volume {
         requires exists { IsTrue (tells self.old) → IsSome (get (files self.old) file) }
         ensures same { IsTrue (tells self.old) → files self.new ≡ files self.old }
         ensures failed { IsErr result → Rose (faults self.old) (faults self.new) }
+        ensures unfailed { OnOk result (faults self.new ≡ faults self.old) }
         ensures stays { Stays (tells self.old) (tells self.new) (leases self.old) (leases self.new)
             (refs self.old) (refs self.new) (faults self.old) (faults self.new) }
 
@@ -243,6 +251,7 @@ pub trait Volume {
             → OnOk result (files self.new ≡ remove (files self.old) file) }
         ensures refused { IsTrue (tells self.old) → OnErr result (files self.new ≡ files self.old) }
         ensures failed { IsErr result → Rose (faults self.old) (faults self.new) }
+        ensures unfailed { OnOk result (faults self.new ≡ faults self.old) }
         ensures stays { Stays (tells self.old) (tells self.new) (leases self.old) (leases self.new)
             (refs self.old) (refs self.new) (faults self.old) (faults self.new) }
 
@@ -263,6 +272,7 @@ pub trait Volume {
         ensures lent { OnOk result (leases self.new ≡ list.now ∷ leases self.old) }
         ensures refused { OnErr result (leases self.new ≡ leases self.old) }
         ensures failed { IsErrOf result VolumeError.Failed → Rose (faults self.old) (faults self.new) }
+        ensures unfailed { OnOk result (faults self.new ≡ faults self.old) }
         ensures memory { IsErrOf result VolumeError.Memory → Unmoved (moment self.old) (moment self.new)
             (leases self.old) (leases self.new) (faults self.old) (faults self.new) }
         ensures never_falls { faults self.old ≤ faults self.new }
