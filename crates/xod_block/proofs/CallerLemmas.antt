@@ -23,6 +23,8 @@ pub use Rattle.xod_block.specs.Rising.{records_of-rises}
 pub use Rattle.xod_block.proofs.BodyLemmas.{records_of-at}
 pub use Rattle.xod_block.proofs.Growth.{record_in-past, growth-keeps, appended-grows, appended-keeps}
 pub use Rattle.xod_block.proofs.Longer.{record_in-more}
+-- which front decides what record bytes begin with
+pub use Rattle.xod_block.proofs.Front.{record_at-more, record_at-front}
 -- the count of faults over calls in a row
 pub use Rattle.xod_block.proofs.Faults.{counts-first, counts-error, counts-ok, counts-memory}
 

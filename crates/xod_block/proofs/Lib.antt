@@ -2,6 +2,7 @@ pub mod AddressLemmas
 pub mod BodyLemmas
 pub mod CallerLemmas
 pub mod Faults
+pub mod Front
 pub mod Growth
 pub mod Links
 pub mod Longer

@@ -79,7 +79,7 @@ root-keeps : Keeps root_at
 unfolding root_at
 root-keeps = keeps-then byte_at _ byte-keeps (λ format. keeps-then (number_at w64) _ (number-keeps w64) (λ commit. keeps-then byte_at _ byte-keeps (λ count. keeps-then (links_at count) _ (links-keeps count) (λ trees. keeps-either _ _ _ (keeps-last (Root commit trees)) keeps-none))))
 
-record-keeps : Keeps record_and_rest
+pub record-keeps : Keeps record_and_rest
 unfolding record_and_rest
 record-keeps = keeps-then byte_at _ byte-keeps (λ kind. keeps-either (eqb kind 1) _ _ leaf-keeps (keeps-either (eqb kind 2) _ _ node-keeps (keeps-either (eqb kind 3) _ _ root-keeps keeps-none)))
 
