@@ -1,5 +1,5 @@
 -- A pair of log files that is made call by call: body and ends are created, a closed mark is appended, and both are synced.
-use Rattle.std.proofs.Common.{◌≡◌, ℕ, List, [], ◌++◌, Some, IsNone, IsSome, refl, sym, subst, ◌∙◌, ap, arith}
+use Rattle.std.proofs.Common.{◌≡◌, ℕ, [], ◌++◌, Some, IsNone, IsSome, refl, sym, subst, ◌∙◌, ap, arith}
 use mathlib.Core.Logic.{◌≢◌}
 use Rattle.std.specs.Ordering.{nat_cmp}
 use Rattle.std.specs.FinMap.{get, insert, get-empty}

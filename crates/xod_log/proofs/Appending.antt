@@ -1,7 +1,7 @@
 -- A block behind the body: the log goes on standing.
 use Rattle.std.proofs.Common.{◌≡◌, ◌<◌, ℕ, ◌+◌, List, ◌++◌, length, Result, Err, false, refl, sym, ◌∙◌, ap, subst, arith, length-append}
 use mathlib.Core.Logic.{◌≢◌}
-use Rattle.std.specs.Prelude.{IsErrOf, IsErrAnd}
+use Rattle.std.specs.Prelude.{OnErr, IsErrOf, IsErrAnd}
 use Rattle.std.specs.FinMap.{get, insert}
 use Rattle.std.proofs.lemmas.Result.{err_from_is_err_and}
 use Rattle.xod_volume.specs.declared.volume.VolumeError.{VolumeError}
@@ -26,6 +26,18 @@ pub memory_only : {T : Type 0} (cause : VolumeError) (r : Result T LogError) →
 memory_only Memory r h fine = refl
 memory_only Failed r h fine = let error = err_from_is_err_and r h in absurd (fine (error.1 ∙ ap (λ e. Err e) error.2))
 
+-- what holds after a refusal
+pub on_error : {T X : Type 0} (r : Result T LogError) (error : LogError) → r ≡ Err error → X → OnErr r X
+on_error {T = T} {X = X} r error is x = subst (λ (r : Result T LogError). OnErr r X) (sym is) x
+
+-- a refusal that was passed on is not that of the device where the answer is not
+pub not_device : {T U : Type 0} (inner : Result T LogError) (outer : Result U LogError) (error : LogError) → inner ≡ Err error → IsErrAnd outer (λ passed. passed ≡ error)
+    → ¬ (IsErrOf outer log_error.Device) → ¬ (IsErrOf inner log_error.Device)
+not_device inner outer error is passed fine device =
+    let out = err_from_is_err_and outer passed in
+    let same : error ≡ log_error.Device = cc (sym is ∙ device) in
+    fine (out.1 ∙ ap (λ e. Err e) (out.2 ∙ same))
+
 -- where nothing was done
 pub nothing_appended : (file at count t : ℕ) (images : ℕ → Files → Type 0) → Passes t t images images (OnFile file (OnBytes (Torn at count)))
 nothing_appended file at count t images = rested t images (OnFile file (OnBytes (Torn at count)))
@@ -40,7 +52,7 @@ stands_still log F G before after s is fewer = subst (λ (H : Files). Stands log
   opened = s.opened;
   at_rest = s.at_rest;
   each = λ left i. s.each left (fewer left i);
-  settled = λ sealed left i. s.settled sealed left (fewer left i);
+  settled = λ sealed. record { body = λ left i. (s.settled sealed).body left (fewer left i); ends = λ left i. (s.settled sealed).ends left (fewer left i) };
   last = s.last;
 })
 

@@ -7,12 +7,12 @@ use Rattle.std.proofs.lemmas.Nat.{from_be_bytes-to_be_bytes_8, from_be_bytes-to_
 use Rattle.std.specs.Int.{w64, w32, from_be_bytes}
 use Rattle.std.specs.FinMap.{get}
 use Rattle.xod_volume.specs.Files.{Files, Content, bytes_in, bytes_of}
-use Rattle.xod_volume.specs.Crash.{OnFile, OnBytes, Torn}
+use Rattle.xod_volume.specs.Crash.{OnFile, OnBytes, Torn, Passes}
 use Rattle.xod_volume.proofs.CallerLemmas.{Torn-front}
 use Rattle.xod_log.specs.declared.log.Log.{Log}
 use Rattle.xod_log.specs.Ends.{gate_at, numbers_at, numbers, end_at, back_at, IsOpen, HasSealed, body_of, ends_of}
-use Rattle.xod_log.specs.Standing.{LeftStanding, body_file, ends_file}
-use Rattle.xod_log.specs.Calls.{IsClosed, IsMarked, OpensOnly}
+use Rattle.xod_log.specs.Standing.{LeftStanding, Stands, body_file, ends_file}
+use Rattle.xod_log.specs.Calls.{IsClosed, IsMarked, OpensOnly, BodyFirst, KeepsClaims}
 use Rattle.xod_log.proofs.Bytes.{same_gate, same_numbers}
 
 -- the volume files of a log file are two
@@ -152,6 +152,43 @@ module _ (log : Log) (B E : List ℕ) (was : Files) (stood : LeftStanding log E 
   pub pair_sealed : (left : Files) → length B ≡ log.end → HasSealed log.file B was → IsClosed log was left ⊎ IsMarked log B E left → HasSealed log.file B left
   pair_sealed left size sealed (inl closed) = closed_sealed left sealed closed
   pair_sealed left size sealed (inr marked) = marked_sealed left size sealed marked
+
+-- ---- since a call's start
+
+module _ (log : Log) (files : Files) (t0 t1 : ℕ) (i0 i1 : ℕ → Files → Type 0) (stands : Stands log files (i0 t0)) where
+  abbrev B : List ℕ
+  B = bytes_of files (body_file log)
+
+  abbrev E : List ℕ
+  E = bytes_of files (ends_file log)
+
+  -- a call that leaves the pair closed or marked
+  pub pair_claims : (S : Files → Files → Type 0) → ((was left : Files) → S was left → IsClosed log was left ⊎ IsMarked log B E left)
+      → Passes t0 t1 i0 i1 S → BodyFirst log files (i1 t1) → KeepsClaims log files t0 t1 i0 i1
+  pair_claims S pair passes first = record {
+    sealed = λ given left since.
+        let from = passes.each since.0 left since.1 since.2 since.3 in
+        pair_sealed log B E from.0 (stands.each from.0 from.1) left stands.size (given from.0 from.1) (pair from.0 left from.2);
+    opens = λ left since.
+        let from = passes.each since.0 left since.1 since.2 since.3 in
+        pair_opens log B E from.0 (stands.each from.0 from.1) left (pair from.0 left from.2);
+    body_first = first;
+  }
+
+  -- a block behind the body
+  pub append_claims : (count : ℕ) → Passes t0 t1 i0 i1 (OnFile (body_file log) (OnBytes (Torn log.end count))) → KeepsClaims log files t0 t1 i0 i1
+  append_claims count passes = record {
+    sealed = λ given left since.
+        let from = passes.each since.0 left since.1 since.2 since.3 in
+        appended_sealed log B E from.0 (stands.each from.0 from.1) count left stands.size (given from.0 from.1) from.2;
+    opens = λ left since.
+        let from = passes.each since.0 left since.1 since.2 since.3 in
+        appended_opens log B E from.0 (stands.each from.0 from.1) count left from.2;
+    body_first = inl (λ left i.
+        let from = passes.each t1 left passes.later (omega arith) i in
+        let same = from.2.others (ends_file log) (λ e. files_apart log.file (sym e)) in
+        ap (λ (c : Content). gate_at (bytes_in c) log.marks) same ∙ (stands.each from.0 from.1).at_rest.gate);
+  }
 
 -- ---- laws
 

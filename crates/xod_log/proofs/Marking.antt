@@ -1,5 +1,5 @@
 -- A seal, call by call: the bytes of the ends, and what a crash may leave after each call.
-use Rattle.std.proofs.Common.{◌≡◌, ◌<◌, ◌≤◌, ℕ, ◌+◌, ◌*◌, suc, List, [], ◌∷◌, ◌++◌, length, take, drop, get_or, Some, Bool, true, false, refl, sym, ◌∙◌, ap, subst, arith, append_assoc, length-append, length-take, length-drop, inl, inr}
+use Rattle.std.proofs.Common.{◌≡◌, ◌<◌, ◌≤◌, ℕ, ◌+◌, ◌*◌, List, [], ◌∷◌, ◌++◌, length, take, drop, get_or, Some, Bool, true, false, refl, sym, ◌∙◌, ap, subst, arith, append_assoc, length-append, length-take, length-drop, inl, inr}
 use mathlib.Core.Logic.{◌≢◌}
 use Rattle.std.proofs.lemmas.Bool.{cases_lt}
 use Rattle.std.proofs.lemmas.List.{drop-take, get_or-drop, take_at, drop_at}
@@ -295,7 +295,10 @@ module _ (log : Log) (B E : List ℕ) (rest : AtRest log.marks E E) where
   marked_says = marked_numbered.says
 
   marked_last : LastSays (m + 1) log.end log.back (marked_ends log E)
-  marked_last = let next : m + 1 ≡ suc m = omega arith in subst (λ (k : ℕ). LastSays k log.end log.back (marked_ends log E)) (sym next) marked_says
+  marked_last = record {
+    none = λ none. absurd (omega (arith, none));
+    some = λ mark next. let same : m ≡ mark = omega (arith, next) in subst (λ (k : ℕ). numbers_at (marked_ends log E) k ≡ nums) same marked_says;
+  }
 
   -- ---- standing
 
@@ -346,7 +349,7 @@ module _ (log : Log) (B E : List ℕ) (rest : AtRest log.marks E E) where
                 has_ends = left_ends.0;
                 at_rest = subst (λ (l : List ℕ). AtRest (m + 1) l (bytes_of left (ends_file log))) (sym ends.1) (subst (λ (l : List ℕ). AtRest (m + 1) (marked_ends log E) l) (sym left_ends.1) marked_rest);
               };
-          settled = λ sealed left i. each_body left i ∙ sym body_there;
+          settled = λ sealed. record { body = λ left i. each_body left i ∙ sym body_there; ends = λ left i. each_ends left i ∙ sym ends_there };
           last = λ sealed. subst (LastSays (m + 1) log.end log.back) (sym ends.1) marked_last;
         }
 

@@ -1,5 +1,5 @@
 -- A pair is made: what reads give, and what a crash may leave.
-use Rattle.std.proofs.Common.{◌≡◌, ◌==◌, ◌||◌, ◌<◌, ◌≤◌, ℕ, Bool, List, [], ◌∷◌, length, Some, None, true, IsSome, is_some, refl, sym, ◌∙◌, ap, subst, inl, inr, arith}
+use Rattle.std.proofs.Common.{◌≡◌, ◌==◌, ◌||◌, ◌<◌, ◌≤◌, ◌⊎◌, ℕ, Bool, List, [], ◌∷◌, length, Some, None, true, IsSome, is_some, refl, sym, ◌∙◌, ap, subst, inl, inr, arith}
 use mathlib.Core.Logic.{◌≢◌}
 use Rattle.std.specs.List.{list_any}
 use Rattle.std.specs.Ordering.{nat_cmp, eq_by_cmp}
@@ -7,9 +7,9 @@ use Rattle.std.specs.Cmp.{nat_cmp_total, eq_by_cmp_equiv, unsigned_ties}
 use Rattle.std.specs.FinMap.{get, keys, contains_key-keys, get-empty}
 use Rattle.xod_volume.specs.Files.{Files, Content, no_files, bytes_in}
 use Rattle.xod_volume.specs.Crash.{OnFile, OnBytes, Torn, Appears, Passes, Rests, IsSame}
-use Rattle.xod_log.specs.Ends.{gate_at, IsOpen, IsUsed, body_of, ends_of}
-use Rattle.xod_log.specs.Standing.{Stands, empty_log, last_file}
-use Rattle.xod_log.specs.Calls.{IsEmptyPair, MakesPair, no_mark}
+use Rattle.xod_log.specs.Ends.{gate_at, IsUsed, body_of, ends_of}
+use Rattle.xod_log.specs.Standing.{IsDurablePair, Stands, empty_log, last_file}
+use Rattle.xod_log.specs.Calls.{IsEmptyPair, IsSamePair, MakesPair, no_mark}
 use Rattle.xod_log.specs.Runs.{Run}
 use Rattle.xod_log.proofs.Runs.{goes, sure}
 use Rattle.xod_log.proofs.Claims.{files_apart}
@@ -40,6 +40,10 @@ nothing_used files none file within used =
     let there : is_some {T = List ℕ} None ≡ true = subst (λ (c : Content). IsSome c) absent used.has_body in
     cc
 
+-- a pair without blocks in each image is durable
+pub empty_durable : (file : ℕ) (files : Files) (images : Files → Type 0) → IsEmptyPair file files → ((left : Files) → images left → IsEmptyPair file left) → IsDurablePair file files images
+empty_durable file files images made each = record { body = λ left i. (each left i).body ∙ sym made.body; ends = λ left i. (each left i).ends ∙ sym made.ends }
+
 -- a log without blocks stands on a pair without blocks
 pub empty_stands : (file target : ℕ) (files : Files) (images : Files → Type 0) → IsEmptyPair file files → ((left : Files) → images left → IsEmptyPair file left)
     → Stands (empty_log file target) files images
@@ -61,8 +65,8 @@ empty_stands file target files images made each =
             has_ends = left_ends.0;
             at_rest = record { size = ap length left_ends.1; front = refl; gate = ap (λ (l : List ℕ). gate_at l 0) left_ends.1 };
           };
-      settled = λ _ left i. (each left i).body ∙ sym made.body;
-      last = λ _. refl;
+      settled = λ _. empty_durable file files images made each;
+      last = λ _. record { none = λ _. refl; some = λ mark next. absurd (omega (arith, next)) };
     }
 
 -- ---- what a crash may leave
@@ -82,24 +86,20 @@ module _ (file : ℕ) where
       omega (arith, used.opened.followed, ap length bytes.1, s.short, lt)
 
   pub short_fine : (most : ℕ) (was left : Files) → most < 26 → Short most was left → MakesPair file was left
-  short_fine most was left lt s = record { others = s.others; unused = λ not. short_unused most was left lt s }
+  short_fine most was left lt s = record { others = s.others; pair = inr (short_unused most was left lt s) }
 
   pub same_fine : (was : Files) → MakesPair file was was
-  same_fine was = record { others = λ other a b. refl; unused = λ not. not }
+  same_fine was = record { others = λ other a b. refl; pair = inl (record { body = refl; ends = refl }) }
 
   -- the ends are emptied
-  emptied_unused : (was left : Files) → OnFile (ends_of file) Appears was left → ¬ (IsUsed file was) → ¬ (IsUsed file left)
-  emptied_unused was left on not used = elim on.here [
-    | inl same ↦ not (record {
-      has_body = subst (λ (o : Content). IsSome o) (on.others (body_of file) (files_apart file)) used.has_body;
-      has_ends = subst (λ (o : Content). IsSome o) same used.has_ends;
-      opened = subst (λ (o : Content). IsOpen (bytes_in o) 0) same used.opened;
-    })
-    | inr made ↦ omega (arith, used.opened.followed, ap (λ (o : Content). length (bytes_in o)) made)
+  emptied_pair : (was left : Files) → OnFile (ends_of file) Appears was left → IsSamePair file was left ⊎ (¬ (IsUsed file left))
+  emptied_pair was left on = elim on.here [
+    | inl same ↦ inl (record { body = on.others (body_of file) (files_apart file); ends = same })
+    | inr made ↦ inr (λ used. omega (arith, used.opened.followed, ap (λ (o : Content). length (bytes_in o)) made))
   ]
 
   pub emptied_fine : (was left : Files) → OnFile (ends_of file) Appears was left → MakesPair file was left
-  emptied_fine was left on = record { others = λ other a b. on.others other b; unused = emptied_unused was left on }
+  emptied_fine was left on = record { others = λ other a b. on.others other b; pair = emptied_pair was left on }
 
   pub emptied_short : (was left : Files) → get left (ends_of file) ≡ Some [] → OnFile (ends_of file) Appears was left → Short 0 was left
   emptied_short was left empty on = record { others = λ other a b. on.others other b; ends = []; there = empty; short = omega arith }

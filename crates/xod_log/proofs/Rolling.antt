@@ -1,17 +1,18 @@
 -- A roll, call by call, and the block that comes behind it: what a crash may leave after each call, and which log stands.
-use Rattle.std.proofs.Common.{◌≡◌, ◌<◌, ◌⊎◌, ℕ, ◌+◌, ◌*◌, List, [], ◌++◌, length, take, Some, IsSome, Bool, true, false, MatchBool, if◌then◌else◌, refl, sym, ◌∙◌, ap, subst, arith, inl, inr}
+use Rattle.std.proofs.Common.{◌≡◌, ◌<◌, ◌⊎◌, ℕ, ◌+◌, ◌*◌, List, [], ◌++◌, length, take, Some, IsSome, IsTrue, Bool, true, false, MatchBool, if◌then◌else◌, refl, sym, ◌∙◌, ap, subst, arith, inl, inr}
 use mathlib.Core.Logic.{◌≢◌}
 use Rattle.std.specs.FinMap.{get, insert}
 use Rattle.xod_volume.specs.Files.{Files, Content, bytes_in, bytes_of}
-use Rattle.xod_volume.specs.Crash.{OnFile, OnBytes, Torn, Passes, LeftSince}
+use Rattle.xod_volume.specs.Crash.{OnFile, OnBytes, Torn, Passes}
 use Rattle.xod_volume.proofs.CallerLemmas.{get_same, get_other}
 use Rattle.xod_log.specs.declared.log.Log.{Log}
-use Rattle.xod_log.specs.Ends.{gate_at, numbers_at, numbers, IsOpen, IsUsed, HasSealed, body_of, ends_of}
-use Rattle.xod_log.specs.Standing.{AtRest, LeftStanding, LastSays, Stands, body_file, ends_file, sealed_log, rolled_log, is_due}
-use Rattle.xod_log.specs.Calls.{IsElsewhere, IsRolled, MakesPair, IsClosed, IsMarked, Seals, Rolls, Appends, OpensOnly, HasMark}
+use Rattle.xod_log.specs.Ends.{gate_at, numbers_at, IsOpen, IsUsed, body_of, ends_of}
+use Rattle.xod_log.specs.Standing.{AtRest, LeftStanding, IsDurablePair, LastSays, Stands, body_file, ends_file, sealed_log, rolled_log, appended_log, is_due}
+use Rattle.xod_log.specs.Calls.{IsElsewhere, IsRolled, IsSamePair, MakesPair, IsClosed, IsMarked, Seals, Rolls, Appends, BodyFirst, KeepsClaims, Outlives}
 use Rattle.xod_log.proofs.Runs.{weakened, joined}
-use Rattle.xod_log.proofs.Claims.{same_bytes, appended_sealed, pair_opens, pair_sealed}
+use Rattle.xod_log.proofs.Claims.{same_bytes, pair_claims}
 use Rattle.xod_log.proofs.Marking.{has_bytes}
+use Rattle.xod_log.proofs.SealRuns.{stood_mark}
 
 -- ---- files of the pairs
 
@@ -34,6 +35,17 @@ used_over file was left body ends used = record {
 -- ends with one mark have no open one
 pub short_unused : (file : ℕ) (left : Files) → length (bytes_of left (ends_of file)) ≡ 13 → ¬ (IsUsed file left)
 short_unused file left size used = omega (arith, size, used.opened.followed)
+
+-- the calls on the next pair leave this one alone
+pub making_apart : (log : Log) (mid left : Files) → MakesPair (log.file + 1) mid left → IsSamePair log.file mid left
+making_apart log mid left made =
+    let apart = next_apart log.file in
+    record { body = made.others (body_file log) apart.0 apart.1; ends = made.others (ends_file log) apart.2 apart.3 }
+
+pub block_apart : (log : Log) (step : Content → Content → Type 0) (mid left : Files) → OnFile (body_of (log.file + 1)) step mid left → IsSamePair log.file mid left
+block_apart log step mid left on =
+    let apart = next_apart log.file in
+    record { body = on.others (body_file log) apart.0; ends = on.others (ends_file log) apart.2 }
 
 -- ---- what a roll may leave
 
@@ -99,7 +111,10 @@ module _ (log : Log) (B E : List ℕ) where
       let apart = next_apart log.file in
       record {
         others = λ other away. let four = elsewhere log other away in made.others other four.2 four.3 ∙ r.others other away;
-        next = λ unused. made.unused (r.next unused);
+        next = λ unused. elim made.pair [
+          | inl same ↦ λ used. r.next unused (used_over (log.file + 1) mid left same.body same.ends used)
+          | inr not_used ↦ not_used
+        ];
         pair = pair_over was mid left (made.others (body_file log) apart.0 apart.1) (made.others (ends_file log) apart.2 apart.3) r.pair;
       }
 
@@ -156,22 +171,28 @@ module _ (log : Log) (files : Files) (t0 t1 : ℕ) (i0 i1 : ℕ → Files → Ty
   abbrev E : List ℕ
   E = bytes_of files (ends_file log)
 
-  pub roll_opens : Passes t0 t1 i0 i1 (Rolls log B E) → (left : Files) → LeftSince t0 t1 i1 left → OpensOnly log E left
-  roll_opens passes left since =
-      let from = passes.each since.0 left since.1 since.2 since.3 in
-      pair_opens log B E from.0 (stands.each from.0 from.1) left from.2.pair
+  pub roll_claims : Passes t0 t1 i0 i1 (Rolls log B E) → BodyFirst log files (i1 t1) → KeepsClaims log files t0 t1 i0 i1
+  roll_claims = pair_claims log files t0 t1 i0 i1 stands (Rolls log B E) (λ was left r. r.pair)
 
-  pub roll_seals : Passes t0 t1 i0 i1 (Rolls log B E) → ((left : Files) → i0 t0 left → HasSealed log.file B left)
-      → (left : Files) → LeftSince t0 t1 i1 left → HasSealed log.file B left
-  roll_seals passes sealed left since =
-      let from = passes.each since.0 left since.1 since.2 since.3 in
-      pair_sealed log B E from.0 (stands.each from.0 from.1) left stands.size (sealed from.0 from.1) from.2.pair
+  pub seal_claims : Passes t0 t1 i0 i1 (Seals log B E) → BodyFirst log files (i1 t1) → KeepsClaims log files t0 t1 i0 i1
+  seal_claims = pair_claims log files t0 t1 i0 i1 stands (Seals log B E) (λ was left s. s.pair)
 
-  pub append_seals : (count : ℕ) → Passes t0 t1 i0 i1 (OnFile (body_file log) (OnBytes (Torn log.end count))) → ((left : Files) → i0 t0 left → HasSealed log.file B left)
-      → (left : Files) → LeftSince t0 t1 i1 left → HasSealed log.file B left
-  append_seals count passes sealed left since =
-      let from = passes.each since.0 left since.1 since.2 since.3 in
-      appended_sealed log B E from.0 (stands.each from.0 from.1) count left stands.size (sealed from.0 from.1) from.2
+-- where nothing was done
+pub stood_first : (log : Log) (files : Files) (images : Files → Type 0) → Stands log files images → BodyFirst log files images
+stood_first log files images stands = inl (λ left i. (stands.each left i).at_rest.gate)
+
+-- a call that leaves the pair alone
+pub first_after : (log : Log) (files : Files) (t1 t2 : ℕ) (i1 i2 : ℕ → Files → Type 0) (S : Files → Files → Type 0) → Passes t1 t2 i1 i2 S
+    → ((mid left : Files) → S mid left → IsSamePair log.file mid left) → BodyFirst log files (i1 t1) → BodyFirst log files (i2 t2)
+first_after log files t1 t2 i1 i2 S passes keeps first =
+    let from : (left : Files) → i2 t2 left → (mid : Files) × i1 t1 mid × IsSamePair log.file mid left = λ left i.
+    let came = passes.each t2 left passes.later (omega arith) i in
+    (came.0, came.1, keeps came.0 left came.2)
+    in
+    elim first [
+      | inl closed ↦ inl (λ left i. let mid = from left i in ap (λ (c : Content). gate_at (bytes_in c) log.marks) mid.2.ends ∙ closed mid.0 mid.1)
+      | inr whole ↦ inr (λ left i. let mid = from left i in mid.2.body ∙ whole mid.0 mid.1)
+    ]
 
 -- ---- which log stands
 
@@ -202,7 +223,12 @@ stands_beside log before after past images body ends from s =
               gate = ap (λ (l : List ℕ). gate_at l log.marks) left_bytes ∙ stood.at_rest.gate;
             };
           };
-      settled = λ is_sealed left im. let was = from left im in was.2 ∙ s.settled is_sealed was.0 was.1 ∙ sym body;
+      settled = λ is_sealed.
+          let pair = s.settled is_sealed in
+          record {
+            body = λ left im. let was = from left im in was.2 ∙ pair.body was.0 was.1 ∙ sym body;
+            ends = λ left im. let was = from left im in was.3 ∙ pair.ends was.0 was.1 ∙ sym ends;
+          };
       last = λ is_sealed. subst (λ (l : List ℕ). LastSays log.marks log.end log.back l) (sym ends_bytes) (s.last is_sealed);
     }
 
@@ -222,6 +248,11 @@ same_place false x y is = is
 
 pub sealed_file : (log : Log) → (sealed_log log).file ≡ log.file
 sealed_file log = same_place log.is_sealed log (record log { marks = log.marks + 1; is_sealed = true }) refl
+
+-- an append leaves the log on its file, also where it was refused
+pub appended_file : (log : Log) (b : Bool) (count back : ℕ) → (if b then (appended_log log count back) else log).file ≡ log.file
+appended_file log true count back = refl
+appended_file log false count back = refl
 
 -- the sealed log stands beside the next pair while that is made, and while a block comes to it
 module _ (log now : Log) (is : now ≡ sealed_log log) (t1 t2 : ℕ) (i1 i2 : ℕ → Files → Type 0) (before after : Files) where
@@ -267,25 +298,32 @@ rolled_behind log block before mid after r is =
       next_ends = other (ends_of (log.file + 1)) (λ e. omega (arith, e)) ∙ r.next_ends;
     }
 
--- ---- what a roll sealed
+-- ---- what a seal left outlives a crash
 
--- the file that was sealed is whole in each image, also after calls that leave its pair
-pub whole_after : (t1 t2 : ℕ) (i1 i2 : ℕ → Files → Type 0) (S : Files → Files → Type 0) (file : ℕ) (content : Content) → Passes t1 t2 i1 i2 S
-    → ((mid left : Files) → S mid left → get left file ≡ get mid file) → ((left : Files) → i1 t1 left → get left file ≡ content)
-    → (left : Files) → i2 t2 left → get left file ≡ content
-whole_after t1 t2 i1 i2 S file content passes keeps whole left i =
-    let from = passes.each t2 left passes.later (omega arith) i in
-    keeps from.0 left from.2 ∙ whole from.0 from.1
+always_sealed : (b : Bool) (x y : Log) → x.is_sealed ≡ b → IsTrue y.is_sealed → IsTrue (if b then x else y).is_sealed
+always_sealed true x y is sealed = is
+always_sealed false x y is sealed = sealed
 
--- and so is its last mark
-pub mark_after : (t1 t2 : ℕ) (i1 i2 : ℕ → Files → Type 0) (S : Files → Files → Type 0) (log : Log) (mark : ℕ) → Passes t1 t2 i1 i2 S
-    → ((mid left : Files) → S mid left → get left (ends_file log) ≡ get mid (ends_file log)) → ((left : Files) → i1 t1 left → HasMark log mark left)
-    → (left : Files) → i2 t2 left → HasMark log mark left
-mark_after t1 t2 i1 i2 S log mark passes keeps has left i =
-    let from = passes.each t2 left passes.later (omega arith) i in
-    let before = has from.0 from.1 in
-    let same = sym (keeps from.0 left from.2) in
+pub sealed_outlives : (log now : Log) (files : Files) (images : Files → Type 0) → now ≡ sealed_log log → Stands now files images → Outlives log files images
+sealed_outlives log now files images is stands =
+    let on : Stands (sealed_log log) files images = subst (λ (l : Log). Stands l files images) is stands in
+    let sealed = always_sealed log.is_sealed log (record log { marks = log.marks + 1; is_sealed = true }) refl refl in
     record {
-      opened = subst (λ (c : Content). IsOpen (bytes_in c) mark) same before.opened;
-      says = subst (λ (c : Content). numbers_at (bytes_in c) mark ≡ numbers log.end log.back) same before.says;
+      pair = subst (λ (file : ℕ). IsDurablePair file files images) (sealed_file log) (on.settled sealed);
+      marked = λ left mark i next. stood_mark (sealed_log log) files images on sealed left mark i next;
     }
+
+chosen : (b : Bool) (x y : Log) → b ≡ true → x ≡ (if b then x else y)
+chosen true x y is = refl
+chosen false x y is = cc
+
+passed : (b : Bool) (x y : Log) → b ≡ false → y ≡ (if b then x else y)
+passed true x y is = cc
+passed false x y is = refl
+
+-- where nothing was appended, and where something was
+pub sealed_before : (log : Log) → log.is_sealed ≡ true → log ≡ sealed_log log
+sealed_before log is = chosen log.is_sealed log (record log { marks = log.marks + 1; is_sealed = true }) is
+
+pub sealed_now : (log : Log) → log.is_sealed ≡ false → record log { marks = log.marks + 1; is_sealed = true } ≡ sealed_log log
+sealed_now log is = passed log.is_sealed log (record log { marks = log.marks + 1; is_sealed = true }) is

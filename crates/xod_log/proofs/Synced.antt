@@ -1,12 +1,14 @@
 -- Calls on one file, one after another: what reads give, and what a crash may leave.
-use Rattle.std.proofs.Common.{◌≡◌, ℕ, Bool, List, [], Some, None, IsSome, IsTrue, is_some, refl, sym, ◌∙◌, ap, subst, inl, inr}
+use Rattle.std.proofs.Common.{◌≡◌, ℕ, Bool, List, [], Some, None, IsSome, IsTrue, is_some, refl, sym, ◌∙◌, ap, subst, inl, inr, arith}
 use mathlib.Core.Logic.{◌≢◌}
+use Rattle.std.proofs.lemmas.Bool.{cases_eq}
 use Rattle.std.specs.FinMap.{get, insert}
 use Rattle.xod_volume.specs.Files.{Files, Content}
-use Rattle.xod_volume.specs.Crash.{OnFile, OnBytes, Torn, Shortened, Appears, Passes, IsSame}
+use Rattle.xod_volume.specs.Crash.{OnFile, OnBytes, Torn, Shortened, Appears, Passes, Rests, IsSame}
 use Rattle.xod_volume.proofs.CallerLemmas.{get_same, Torn-same, OnBytes-same, OnFile-same}
 use Rattle.xod_log.specs.Runs.{Run}
-use Rattle.xod_log.proofs.Runs.{begun, goes}
+use Rattle.xod_log.specs.Standing.{IsSettled}
+use Rattle.xod_log.proofs.Runs.{begun, goes, unmoved}
 use Rattle.xod_log.proofs.Changed.{other_file}
 
 -- ---- what reads give
@@ -56,6 +58,37 @@ pub torn_then_synced : (t0 t1 t2 : ℕ) (i0 i1 i2 : ℕ → Files → Type 0) (f
     → Passes t0 t1 i0 i1 (OnFile file (OnBytes (Torn at n))) → Passes t1 t2 i1 i2 IsSame → Passes t0 t2 i0 i2 (OnFile file (OnBytes (Torn at n)))
 torn_then_synced t0 t1 t2 i0 i1 i2 file at n =
     then_synced t0 t1 t2 i0 i1 i2 (OnFile file (OnBytes (Torn at n))) (OnFile-same file (OnBytes (Torn at n)) (OnBytes-same (Torn at n) (Torn-same at n)))
+
+-- ---- what is settled stays so
+
+-- where nothing changed
+pub settled_still : (before after : Files) (t0 t1 : ℕ) (i0 i1 : ℕ → Files → Type 0) (S : Files → Files → Type 0) → after ≡ before → t1 ≡ t0 → Passes t0 t1 i0 i1 S
+    → (other : ℕ) → IsSettled other before (i0 t0) → IsSettled other after (i1 t1)
+settled_still before after t0 t1 i0 i1 S same still passes other was there left i =
+    subst (λ (f : Files). get left other ≡ get f other) (sym same)
+    (was (subst (λ (f : Files). IsSome (get f other)) same there) left (unmoved t0 t1 i0 i1 S still passes left i))
+
+pub settled_rest : (before after : Files) (t0 t1 : ℕ) (i0 i1 : ℕ → Files → Type 0) → after ≡ before → Rests t0 t1 i0 i1
+    → (other : ℕ) → IsSettled other before (i0 t0) → IsSettled other after (i1 t1)
+settled_rest before after t0 t1 i0 i1 same rests other was there left i =
+    subst (λ (f : Files). get left other ≡ get f other) (sym same)
+    (was (subst (λ (f : Files). IsSome (get f other)) same there) left (subst (λ (k : ℕ). i0 k left) rests.still (rests.same t1 left i)))
+
+-- a file that a call leaves alone
+pub settled_after : (other : ℕ) (before after : Files) (t0 t1 : ℕ) (i0 i1 : ℕ → Files → Type 0) (S : Files → Files → Type 0) → Passes t0 t1 i0 i1 S
+    → ((was left : Files) → S was left → get left other ≡ get was other) → get after other ≡ get before other → IsSettled other before (i0 t0) → IsSettled other after (i1 t1)
+settled_after other before after t0 t1 i0 i1 S passes keeps same was there left i =
+    let from = passes.each t1 left passes.later (omega arith) i in
+    keeps from.0 left from.2 ∙ was (subst (λ (c : Content). IsSome c) same there) from.0 from.1 ∙ sym same
+
+-- a call on one file, which is durable after it
+pub settled_by : (file : ℕ) (step : Content → Content → Type 0) (before after : Files) (t0 t1 : ℕ) (i0 i1 : ℕ → Files → Type 0) → Passes t0 t1 i0 i1 (OnFile file step)
+    → ((other : ℕ) → other ≢ file → get after other ≡ get before other) → ((left : Files) → i1 t1 left → get left file ≡ get after file)
+    → (other : ℕ) → IsSettled other before (i0 t0) → IsSettled other after (i1 t1)
+settled_by file step before after t0 t1 i0 i1 passes others durable other was = elim (cases_eq other file) [
+  | inl is ↦ λ there left i. subst (λ (k : ℕ). get left k ≡ get after k) (sym is) (durable left i)
+  | inr apart ↦ settled_after other before after t0 t1 i0 i1 (OnFile file step) passes (λ was left on. on.others other apart) (others other apart) was
+]
 
 -- ---- a file is made, or is there, and is emptied
 

@@ -3,11 +3,11 @@ use Rattle.std.specs.Prelude.{◌≡◌, ◌<◌, ◌≤◌, ◌⊎◌, ℕ, ◌
 use mathlib.Core.Logic.{◌≢◌}
 use Rattle.std.specs.FinMap.{get}
 use Rattle.xod_volume.specs.Files.{Files, bytes_of, size_of}
-use Rattle.xod_volume.specs.Crash.{OnFile, OnBytes, Torn}
+use Rattle.xod_volume.specs.Crash.{OnFile, OnBytes, Torn, LeftSince}
 use Rattle.xod_block.specs.declared.address.Address.{Address}
 use Rattle.xod_log.specs.declared.log.Log.{Log}
-use Rattle.xod_log.specs.Ends.{gate_at, numbers_at, numbers, IsOpen, IsUsed, body_of, ends_of}
-use Rattle.xod_log.specs.Standing.{body_file, ends_file, is_due}
+use Rattle.xod_log.specs.Ends.{gate_at, numbers_at, numbers, IsOpen, IsUsed, HasSealed, body_of, ends_of}
+use Rattle.xod_log.specs.Standing.{IsDurablePair, body_file, ends_file, is_due, sealed_log}
 
 -- ---- bytes
 
@@ -48,10 +48,15 @@ pub record IsRolled (log : Log) (block : List ℕ) (before after : Files) : Type
 
 -- ---- what a crash may leave
 
--- While a pair is made, a log file that was not used is not used.
+-- A log file has the same pair.
+pub record IsSamePair (file : ℕ) (was left : Files) : Type 0 where
+  pub body : get left (body_of file) ≡ get was (body_of file)
+  pub ends : get left (ends_of file) ≡ get was (ends_of file)
+
+-- While a pair is made it is as it was, or the log file is not used.
 pub record MakesPair (file : ℕ) (was left : Files) : Type 0 where
   pub others : (other : ℕ) → other ≢ body_of file → other ≢ ends_of file → get left other ≡ get was other
-  pub unused : ¬ (IsUsed file was) → ¬ (IsUsed file left)
+  pub pair : IsSamePair file was left ⊎ (¬ (IsUsed file left))
 
 -- The body is as it was, and the open marks are those that were open: the one to come is closed yet.
 pub record IsClosed (log : Log) (was left : Files) : Type 0 where
@@ -93,7 +98,28 @@ OpensOnly log ends left = (mark : ℕ) → IsOpen (bytes_of left (ends_file log)
     → ((mark < log.marks) × (take (13 * log.marks) (bytes_of left (ends_file log)) ≡ take (13 * log.marks) ends))
     ⊎ ((log.is_sealed ≡ false) × (mark ≡ log.marks) × (numbers_at (bytes_of left (ends_file log)) mark ≡ numbers log.end log.back))
 
+-- The body comes before the mark: in no image is the mark to come open, or each image has the body whole.
+abbrev pub BodyFirst : Log → Files → (Files → Type 0) → Type 0
+BodyFirst log files images = ((left : Files) → images left → gate_at (bytes_of left (ends_file log)) log.marks ≡ 0)
+    ⊎ ((left : Files) → images left → get left (body_file log) ≡ get files (body_file log))
+
+-- What open marks claim goes on holding in each image since a call's start, no mark is opened but the one to come, and
+-- the body comes before that. `files` is what reads gave at the start.
+pub record KeepsClaims (log : Log) (files : Files) (start now : ℕ) (past images : ℕ → Files → Type 0) : Type 0 where
+  pub sealed : ((left : Files) → past start left → HasSealed log.file (bytes_of files (body_file log)) left)
+      → (left : Files) → LeftSince start now images left → HasSealed log.file (bytes_of files (body_file log)) left
+  pub opens : (left : Files) → LeftSince start now images left → OpensOnly log (bytes_of files (ends_file log)) left
+  pub body_first : BodyFirst log files (images now)
+
+-- ---- what outlives a crash
+
 -- The last mark of the log is open and has the numbers of its last block.
 pub record HasMark (log : Log) (mark : ℕ) (left : Files) : Type 0 where
   pub opened : IsOpen (bytes_of left (ends_file log)) mark
   pub says : numbers_at (bytes_of left (ends_file log)) mark ≡ numbers log.end log.back
+
+-- What was appended outlives a crash once the log is sealed: each image has the pair as reads give it, and in it the last
+-- mark is open.
+pub record Outlives (log : Log) (files : Files) (images : Files → Type 0) : Type 0 where
+  pub pair : IsDurablePair log.file files images
+  pub marked : (left : Files) (mark : ℕ) → images left → (sealed_log log).marks ≡ mark + 1 → HasMark (sealed_log log) mark left

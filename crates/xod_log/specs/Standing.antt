@@ -1,5 +1,5 @@
 -- A log, and when it stands on a volume.
-use Rattle.std.specs.Prelude.{◌≡◌, ◌<◌, ℕ, ◌+◌, ◌*◌, Bool, true, false, List, length, take, zero, suc, Some, IsTrue, nat_le, nat_eq, if◌then◌else◌}
+use Rattle.std.specs.Prelude.{◌≡◌, ◌<◌, ℕ, ◌+◌, ◌*◌, Bool, true, false, List, length, take, Some, IsSome, IsTrue, nat_le, nat_eq, if◌then◌else◌}
 use mathlib.Core.Logic.{◌≢◌}
 use Rattle.std.specs.FinMap.{get}
 use Rattle.xod_block.specs.declared.address.Address.{Address}
@@ -71,9 +71,18 @@ pub record LeftStanding (log : Log) (ends : List ℕ) (left : Files) : Type 0 wh
   pub at_rest : AtRest log.marks ends (bytes_of left (ends_file log))
 
 -- The last open mark has the end and the back of the last block; without an open mark there is no block.
-abbrev pub LastSays : ℕ → ℕ → ℕ → List ℕ → Type 0
-LastSays zero end back ends = end ≡ 0
-LastSays (suc mark) end back ends = numbers_at ends mark ≡ numbers end back
+pub record LastSays (marks end back : ℕ) (ends : List ℕ) : Type 0 where
+  pub none : marks ≡ 0 → end ≡ 0
+  pub some : (mark : ℕ) → marks ≡ mark + 1 → numbers_at ends mark ≡ numbers end back
+
+-- A file is settled: where reads find it, each image has it with the same bytes.
+abbrev pub IsSettled : ℕ → Files → (Files → Type 0) → Type 0
+IsSettled file files images = IsSome (get files file) → (left : Files) → images left → get left file ≡ get files file
+
+-- The pair of a log file is durable: each image has it as reads give it.
+pub record IsDurablePair (file : ℕ) (files : Files) (images : Files → Type 0) : Type 0 where
+  pub body : (left : Files) → images left → get left (body_of file) ≡ get files (body_of file)
+  pub ends : (left : Files) → images left → get left (ends_of file) ≡ get files (ends_of file)
 
 -- The log stands on a volume with these files, of which a crash may leave these images. All of it is said of the
 -- current pair.
@@ -84,8 +93,9 @@ pub record Stands (log : Log) (files : Files) (images : Files → Type 0) : Type
   pub opened : (mark : ℕ) → mark < log.marks → gate_at (bytes_of files (ends_file log)) mark ≢ 0
   pub at_rest : AtRest log.marks (bytes_of files (ends_file log)) (bytes_of files (ends_file log))
   pub each : (left : Files) → images left → LeftStanding log (bytes_of files (ends_file log)) left
-  -- where nothing was appended since the last seal, each image has the body, and the last mark is that of the last block
-  pub settled : IsTrue log.is_sealed → (left : Files) → images left → get left (body_file log) ≡ get files (body_file log)
+  -- where nothing was appended since the last seal, each image has the pair as reads give it, and the last mark is that
+  -- of the last block
+  pub settled : IsTrue log.is_sealed → IsDurablePair log.file files images
   pub last : IsTrue log.is_sealed → LastSays log.marks log.end log.back (bytes_of files (ends_file log))
 
 -- The pair is as an opening leaves it, on the device too: the body ends where its last open mark says, and the ends have
@@ -98,5 +108,4 @@ pub record AsOpened (file end marks back : ℕ) (files : Files) (images : Files 
   pub opened : (mark : ℕ) → mark < marks → gate_at (bytes_of files (ends_of file)) mark ≢ 0
   pub closed : gate_at (bytes_of files (ends_of file)) marks ≡ 0
   pub last : LastSays marks end back (bytes_of files (ends_of file))
-  pub each_body : (left : Files) → images left → get left (body_of file) ≡ get files (body_of file)
-  pub each_ends : (left : Files) → images left → get left (ends_of file) ≡ get files (ends_of file)
+  pub durable : IsDurablePair file files images

@@ -7,6 +7,7 @@ ghost use Rattle.xod_volume.specs.Files.{Files, bytes_of, size_of, overwritten};
 ghost use Rattle.xod_volume.specs.Crash.{OnFile, OnBytes, Torn, Appears, Passes};
 ghost use Rattle.xod_volume.specs.Leases.{Stays};
 ghost use Rattle.xod_log.specs.declared.error.LogError.{LogError};
+ghost use Rattle.xod_log.specs.Standing.{IsSettled};
 
 use crate::error::LogError;
 use xod_volume::Volume;
@@ -33,6 +34,7 @@ pub fn write_synced<V: Volume>(
         (V.may_leave volume.old) (V.may_leave volume.new) (OnFile file (OnBytes (Torn at (length bytes.now)))) }
     ensures only_device { (error : LogError) → IsErrOf result error → error ≡ LogError.Device }
     ensures failed { IsErrOf result LogError.Device → Rose (V.faults volume.old) (V.faults volume.new) }
+    ensures unfailed { ¬ (IsErrOf result LogError.Device) → V.faults volume.new ≡ V.faults volume.old }
     ensures stays { Stays (V.tells volume.old) (V.tells volume.new) (V.leases volume.old) (V.leases volume.new)
         (V.refs volume.old) (V.refs volume.new) (V.faults volume.old) (V.faults volume.new) }
 {
@@ -59,8 +61,12 @@ pub fn append_synced<V: Volume>(volume: &mut V, file: u64, bytes: &[u8]) -> Resu
     ensures crash { IsTrue (V.tells volume.old) → Passes (V.moment volume.old) (V.moment volume.new)
         (V.may_leave volume.old) (V.may_leave volume.new)
         (OnFile file (OnBytes (Torn (size_of (V.files volume.old) file) (length bytes.now)))) }
+    ensures settled { IsTrue (V.tells volume.old) → ¬ (IsErrOf result LogError.Device) → (other : ℕ)
+        → IsSettled other (V.files volume.old) (V.may_leave volume.old (V.moment volume.old))
+        → IsSettled other (V.files volume.new) (V.may_leave volume.new (V.moment volume.new)) }
     ensures numbers_left { (last : ℕ) → ¬ (IsErrOf result (LogError.NumbersSpent last)) }
     ensures failed { IsErrOf result LogError.Device → Rose (V.faults volume.old) (V.faults volume.new) }
+    ensures unfailed { ¬ (IsErrOf result LogError.Device) → V.faults volume.new ≡ V.faults volume.old }
     ensures stays { Stays (V.tells volume.old) (V.tells volume.new) (V.leases volume.old) (V.leases volume.new)
         (V.refs volume.old) (V.refs volume.new) (V.faults volume.old) (V.faults volume.new) }
 {
@@ -81,8 +87,12 @@ pub fn make_empty<V: Volume>(volume: &mut V, file: u64, is_there: bool) -> Resul
     ensures kept { IsTrue (V.tells volume.old) → V.may_leave volume.new (V.moment volume.new) (V.files volume.new) }
     ensures crash { IsTrue (V.tells volume.old) → Passes (V.moment volume.old) (V.moment volume.new)
         (V.may_leave volume.old) (V.may_leave volume.new) (OnFile file Appears) }
+    ensures settled { IsTrue (V.tells volume.old) → ¬ (IsErrOf result LogError.Device) → (other : ℕ)
+        → IsSettled other (V.files volume.old) (V.may_leave volume.old (V.moment volume.old))
+        → IsSettled other (V.files volume.new) (V.may_leave volume.new (V.moment volume.new)) }
     ensures numbers_left { (last : ℕ) → ¬ (IsErrOf result (LogError.NumbersSpent last)) }
     ensures failed { IsErrOf result LogError.Device → Rose (V.faults volume.old) (V.faults volume.new) }
+    ensures unfailed { ¬ (IsErrOf result LogError.Device) → V.faults volume.new ≡ V.faults volume.old }
     ensures stays { Stays (V.tells volume.old) (V.tells volume.new) (V.leases volume.old) (V.leases volume.new)
         (V.refs volume.old) (V.refs volume.new) (V.faults volume.old) (V.faults volume.new) }
 {

@@ -4,12 +4,12 @@ ghost use mathlib.Core.Logic.{◌≢◌};
 ghost use Rattle.std.specs.FinMap.{get, insert};
 ghost use Rattle.xod_base.specs.Causes.{Rose};
 ghost use Rattle.xod_volume.specs.Files.{Files, bytes_of, size_of};
-ghost use Rattle.xod_volume.specs.Crash.{OnFile, OnBytes, Torn, Passes, LeftSince};
+ghost use Rattle.xod_volume.specs.Crash.{OnFile, OnBytes, Torn, Passes};
 ghost use Rattle.xod_volume.specs.Leases.{Stays};
 ghost use Rattle.xod_log.specs.declared.error.LogError.{LogError};
-ghost use Rattle.xod_log.specs.Ends.{IsUsed, HasSealed, body_of, ends_of};
-ghost use Rattle.xod_log.specs.Standing.{Stands, body_file, ends_file, is_due, is_last, last_file, resumed_log, sealed_log, empty_log, rolled_log, receiving_log, appended_log, next_place_of};
-ghost use Rattle.xod_log.specs.Calls.{IsElsewhere, IsEmptyPair, MakesPair, EndsWith, IsRolled, Seals, Rolls, Appends, OpensOnly, HasMark, marked_ends, sealed_ends};
+ghost use Rattle.xod_log.specs.Ends.{IsUsed, body_of, ends_of};
+ghost use Rattle.xod_log.specs.Standing.{IsDurablePair, IsSettled, Stands, body_file, ends_file, is_due, is_last, last_file, resumed_log, sealed_log, empty_log, rolled_log, receiving_log, appended_log, next_place_of};
+ghost use Rattle.xod_log.specs.Calls.{IsElsewhere, IsEmptyPair, MakesPair, EndsWith, IsRolled, Seals, Rolls, Appends, BodyFirst, KeepsClaims, Outlives, marked_ends, sealed_ends};
 
 use crate::device::{append_synced, write_synced};
 use crate::error::LogError;
@@ -46,6 +46,7 @@ impl Log {
             → get (V.files volume.new) other ≡ get (V.files volume.old) other }
         ensures numbers_left { (last : ℕ) → ¬ (IsErrOf result (LogError.NumbersSpent last)) }
         ensures failed { IsErrOf result LogError.Device → Rose (V.faults volume.old) (V.faults volume.new) }
+        ensures unfailed { ¬ (IsErrOf result LogError.Device) → V.faults volume.new ≡ V.faults volume.old }
         ensures stays { Stays (V.tells volume.old) (V.tells volume.new) (V.leases volume.old) (V.leases volume.new)
             (V.refs volume.old) (V.refs volume.new) (V.faults volume.old) (V.faults volume.new) }
 
@@ -54,6 +55,11 @@ impl Log {
             → V.may_leave volume.new (V.moment volume.new) (V.files volume.new) }
         ensures leaves { IsTrue (V.tells volume.old) → Passes (V.moment volume.old) (V.moment volume.new)
             (V.may_leave volume.old) (V.may_leave volume.new) (MakesPair 0) }
+        ensures durable { IsTrue (V.tells volume.old) → OnOk result (
+            IsDurablePair 0 (V.files volume.new) (V.may_leave volume.new (V.moment volume.new))) }
+        ensures settled { IsTrue (V.tells volume.old) → ¬ (IsErrOf result LogError.Device) → (other : ℕ)
+            → IsSettled other (V.files volume.old) (V.may_leave volume.old (V.moment volume.old))
+            → IsSettled other (V.files volume.new) (V.may_leave volume.new (V.moment volume.new)) }
     {
         make_pair(volume, 0)?;
         Ok(Log::empty(0, target))
@@ -145,6 +151,7 @@ impl Log {
         ensures untouched { (last : ℕ) → IsErrOf result (LogError.NumbersSpent last)
             → (self.new ≡ self.old) × (volume.new ≡ volume.old) }
         ensures failed { IsErrOf result LogError.Device → Rose (V.faults volume.old) (V.faults volume.new) }
+        ensures unfailed { ¬ (IsErrOf result LogError.Device) → V.faults volume.new ≡ V.faults volume.old }
         ensures stays { Stays (V.tells volume.old) (V.tells volume.new) (V.leases volume.old) (V.leases volume.new)
             (V.refs volume.old) (V.refs volume.new) (V.faults volume.old) (V.faults volume.new) }
 
@@ -154,20 +161,14 @@ impl Log {
         ensures leaves { IsTrue (V.tells volume.old) → Passes (V.moment volume.old) (V.moment volume.new)
             (V.may_leave volume.old) (V.may_leave volume.new) (Appends self.old (length block.now)
             (bytes_of (V.files volume.old) (body_file self.old)) (bytes_of (V.files volume.old) (ends_file self.old))) }
-        ensures sealed { IsTrue (V.tells volume.old)
-            → ((left : Files) → V.may_leave volume.old (V.moment volume.old) left
-            → HasSealed self.old.file (bytes_of (V.files volume.old) (body_file self.old)) left)
-            → (left : Files) → LeftSince (V.moment volume.old) (V.moment volume.new) (V.may_leave volume.new) left
-            → HasSealed self.old.file (bytes_of (V.files volume.old) (body_file self.old)) left }
-        ensures opens { IsTrue (V.tells volume.old)
-            → (left : Files) → LeftSince (V.moment volume.old) (V.moment volume.new) (V.may_leave volume.new) left
-            → OpensOnly self.old (bytes_of (V.files volume.old) (ends_file self.old)) left }
-        ensures durable { IsTrue (V.tells volume.old) → is_due self.old ≡ true → OnOk result ((left : Files)
-            → V.may_leave volume.new (V.moment volume.new) left
-            → get left (body_file self.old) ≡ get (V.files volume.old) (body_file self.old)) }
-        ensures marked { IsTrue (V.tells volume.old) → is_due self.old ≡ true → OnOk result ((left : Files) (mark : ℕ)
-            → V.may_leave volume.new (V.moment volume.new) left → (sealed_log self.old).marks ≡ mark + 1
-            → HasMark (sealed_log self.old) mark left) }
+        ensures claims { IsTrue (V.tells volume.old) → KeepsClaims self.old (V.files volume.old)
+            (V.moment volume.old) (V.moment volume.new) (V.may_leave volume.old) (V.may_leave volume.new) }
+        ensures durable { IsTrue (V.tells volume.old) → is_due self.old ≡ true → OnOk result (
+            Outlives self.old (V.files volume.new) (V.may_leave volume.new (V.moment volume.new))) }
+        ensures settled { IsTrue (V.tells volume.old) → ¬ (IsErrOf result LogError.Device)
+            → (other : ℕ) → other ≢ ends_file self.old → other ≢ body_file self.new
+            → IsSettled other (V.files volume.old) (V.may_leave volume.old (V.moment volume.old))
+            → IsSettled other (V.files volume.new) (V.may_leave volume.new (V.moment volume.new)) }
     {
         if !self.is_due() {
             return self.append_here(volume, block, back);
@@ -197,6 +198,7 @@ impl Log {
             (bytes_of (V.files volume.old) (ends_file self.old)) (V.files volume.old) (V.files volume.new) }
         ensures numbers_left { (last : ℕ) → ¬ (IsErrOf result (LogError.NumbersSpent last)) }
         ensures failed { IsErrOf result LogError.Device → Rose (V.faults volume.old) (V.faults volume.new) }
+        ensures unfailed { ¬ (IsErrOf result LogError.Device) → V.faults volume.new ≡ V.faults volume.old }
         ensures stays { Stays (V.tells volume.old) (V.tells volume.new) (V.leases volume.old) (V.leases volume.new)
             (V.refs volume.old) (V.refs volume.new) (V.faults volume.old) (V.faults volume.new) }
 
@@ -206,20 +208,10 @@ impl Log {
         ensures leaves { IsTrue (V.tells volume.old) → Passes (V.moment volume.old) (V.moment volume.new)
             (V.may_leave volume.old) (V.may_leave volume.new) (Seals self.old
             (bytes_of (V.files volume.old) (body_file self.old)) (bytes_of (V.files volume.old) (ends_file self.old))) }
-        ensures sealed { IsTrue (V.tells volume.old)
-            → ((left : Files) → V.may_leave volume.old (V.moment volume.old) left
-            → HasSealed self.old.file (bytes_of (V.files volume.old) (body_file self.old)) left)
-            → (left : Files) → LeftSince (V.moment volume.old) (V.moment volume.new) (V.may_leave volume.new) left
-            → HasSealed self.old.file (bytes_of (V.files volume.old) (body_file self.old)) left }
-        ensures opens { IsTrue (V.tells volume.old)
-            → (left : Files) → LeftSince (V.moment volume.old) (V.moment volume.new) (V.may_leave volume.new) left
-            → OpensOnly self.old (bytes_of (V.files volume.old) (ends_file self.old)) left }
-        ensures durable { IsTrue (V.tells volume.old) → OnOk result ((left : Files)
-            → V.may_leave volume.new (V.moment volume.new) left
-            → get left (body_file self.old) ≡ get (V.files volume.old) (body_file self.old)) }
-        ensures marked { IsTrue (V.tells volume.old) → OnOk result ((left : Files) (mark : ℕ)
-            → V.may_leave volume.new (V.moment volume.new) left → self.new.marks ≡ mark + 1
-            → HasMark self.new mark left) }
+        ensures claims { IsTrue (V.tells volume.old) → KeepsClaims self.old (V.files volume.old)
+            (V.moment volume.old) (V.moment volume.new) (V.may_leave volume.old) (V.may_leave volume.new) }
+        ensures durable { IsTrue (V.tells volume.old) → OnOk result (
+            Outlives self.old (V.files volume.new) (V.may_leave volume.new (V.moment volume.new))) }
     {
         if self.is_sealed {
             return Ok(());
@@ -253,6 +245,7 @@ impl Log {
         ensures untouched { (last : ℕ) → IsErrOf result (LogError.NumbersSpent last)
             → (self.new ≡ self.old) × (volume.new ≡ volume.old) }
         ensures failed { IsErrOf result LogError.Device → Rose (V.faults volume.old) (V.faults volume.new) }
+        ensures unfailed { ¬ (IsErrOf result LogError.Device) → V.faults volume.new ≡ V.faults volume.old }
         ensures stays { Stays (V.tells volume.old) (V.tells volume.new) (V.leases volume.old) (V.leases volume.new)
             (V.refs volume.old) (V.refs volume.new) (V.faults volume.old) (V.faults volume.new) }
 
@@ -262,20 +255,14 @@ impl Log {
         ensures leaves { IsTrue (V.tells volume.old) → Passes (V.moment volume.old) (V.moment volume.new)
             (V.may_leave volume.old) (V.may_leave volume.new) (Rolls self.old
             (bytes_of (V.files volume.old) (body_file self.old)) (bytes_of (V.files volume.old) (ends_file self.old))) }
-        ensures sealed { IsTrue (V.tells volume.old)
-            → ((left : Files) → V.may_leave volume.old (V.moment volume.old) left
-            → HasSealed self.old.file (bytes_of (V.files volume.old) (body_file self.old)) left)
-            → (left : Files) → LeftSince (V.moment volume.old) (V.moment volume.new) (V.may_leave volume.new) left
-            → HasSealed self.old.file (bytes_of (V.files volume.old) (body_file self.old)) left }
-        ensures opens { IsTrue (V.tells volume.old)
-            → (left : Files) → LeftSince (V.moment volume.old) (V.moment volume.new) (V.may_leave volume.new) left
-            → OpensOnly self.old (bytes_of (V.files volume.old) (ends_file self.old)) left }
-        ensures durable { IsTrue (V.tells volume.old) → OnOk result ((left : Files)
-            → V.may_leave volume.new (V.moment volume.new) left
-            → get left (body_file self.old) ≡ get (V.files volume.old) (body_file self.old)) }
-        ensures marked { IsTrue (V.tells volume.old) → OnOk result ((left : Files) (mark : ℕ)
-            → V.may_leave volume.new (V.moment volume.new) left → (sealed_log self.old).marks ≡ mark + 1
-            → HasMark (sealed_log self.old) mark left) }
+        ensures claims { IsTrue (V.tells volume.old) → KeepsClaims self.old (V.files volume.old)
+            (V.moment volume.old) (V.moment volume.new) (V.may_leave volume.old) (V.may_leave volume.new) }
+        ensures durable { IsTrue (V.tells volume.old) → OnOk result (
+            Outlives self.old (V.files volume.new) (V.may_leave volume.new (V.moment volume.new))) }
+        ensures settled { IsTrue (V.tells volume.old) → ¬ (IsErrOf result LogError.Device)
+            → (other : ℕ) → other ≢ ends_file self.old
+            → IsSettled other (V.files volume.old) (V.may_leave volume.old (V.moment volume.old))
+            → IsSettled other (V.files volume.new) (V.may_leave volume.new (V.moment volume.new)) }
     {
         *self = self.make_next(volume)?;
         Ok(())
@@ -304,12 +291,16 @@ impl Log {
         ensures unchanged { IsTrue (V.tells volume.old) → IsErrOf result LogError.Memory
             → V.files volume.new ≡ V.files volume.old }
         ensures still { IsErrOf result LogError.Memory → V.moment volume.new ≡ V.moment volume.old }
+        ensures settled { IsTrue (V.tells volume.old) → ¬ (IsErrOf result LogError.Device) → OnErr result ((other : ℕ)
+            → IsSettled other (V.files volume.old) (V.may_leave volume.old (V.moment volume.old))
+            → IsSettled other (V.files volume.new) (V.may_leave volume.new (V.moment volume.new))) }
         ensures others { IsTrue (V.tells volume.old) → (other : ℕ) → other ≢ body_file self.old
             → get (V.files volume.new) other ≡ get (V.files volume.old) other }
         ensures torn { IsTrue (V.tells volume.old) → OnFile (body_file self.old)
             (OnBytes (Torn self.old.end (length block.now))) (V.files volume.old) (V.files volume.new) }
         ensures numbers_left { (last : ℕ) → ¬ (IsErrOf result (LogError.NumbersSpent last)) }
         ensures failed { IsErrOf result LogError.Device → Rose (V.faults volume.old) (V.faults volume.new) }
+        ensures unfailed { ¬ (IsErrOf result LogError.Device) → V.faults volume.new ≡ V.faults volume.old }
         ensures stays { Stays (V.tells volume.old) (V.tells volume.new) (V.leases volume.old) (V.leases volume.new)
             (V.refs volume.old) (V.refs volume.new) (V.faults volume.old) (V.faults volume.new) }
         ensures kept { IsTrue (V.tells volume.old) → V.may_leave volume.old (V.moment volume.old) (V.files volume.old)
@@ -346,14 +337,13 @@ impl Log {
             → get (V.files volume.new) other ≡ get (V.files volume.old) other }
         ensures reads { IsTrue (V.tells volume.old) → Seals self.now (bytes_of (V.files volume.old) (body_file self.now))
             (bytes_of (V.files volume.old) (ends_file self.now)) (V.files volume.old) (V.files volume.new) }
-        ensures durable { IsTrue (V.tells volume.old) → OnOk result ((left : Files)
-            → V.may_leave volume.new (V.moment volume.new) left
-            → (get left (body_file self.now) ≡ get (V.files volume.old) (body_file self.now))
-            × (get left (ends_file self.now) ≡ get (V.files volume.new) (ends_file self.now))) }
+        ensures durable { IsTrue (V.tells volume.old) → OnOk result (IsDurablePair self.now.file
+            (V.files volume.new) (V.may_leave volume.new (V.moment volume.new))) }
         ensures memory { IsTrue (V.tells volume.old) → IsErrOf result LogError.Memory
             → Stands self.now (V.files volume.new) (V.may_leave volume.new (V.moment volume.new)) }
         ensures numbers_left { (last : ℕ) → ¬ (IsErrOf result (LogError.NumbersSpent last)) }
         ensures failed { IsErrOf result LogError.Device → Rose (V.faults volume.old) (V.faults volume.new) }
+        ensures unfailed { ¬ (IsErrOf result LogError.Device) → V.faults volume.new ≡ V.faults volume.old }
         ensures stays { Stays (V.tells volume.old) (V.tells volume.new) (V.leases volume.old) (V.leases volume.new)
             (V.refs volume.old) (V.refs volume.new) (V.faults volume.old) (V.faults volume.new) }
 
@@ -363,6 +353,8 @@ impl Log {
         ensures leaves { IsTrue (V.tells volume.old) → Passes (V.moment volume.old) (V.moment volume.new)
             (V.may_leave volume.old) (V.may_leave volume.new) (Seals self.now
             (bytes_of (V.files volume.old) (body_file self.now)) (bytes_of (V.files volume.old) (ends_file self.now))) }
+        ensures body_first { IsTrue (V.tells volume.old) → BodyFirst self.now (V.files volume.old)
+            (V.may_leave volume.new (V.moment volume.new)) }
     {
         let body = body_file(self.file);
         let ends = ends_file(self.file);
@@ -396,6 +388,7 @@ impl Log {
         ensures untouched { (last : ℕ) → IsErrOf result (LogError.NumbersSpent last)
             → (self.new ≡ self.old) × (volume.new ≡ volume.old) }
         ensures failed { IsErrOf result LogError.Device → Rose (V.faults volume.old) (V.faults volume.new) }
+        ensures unfailed { ¬ (IsErrOf result LogError.Device) → V.faults volume.new ≡ V.faults volume.old }
         ensures stays { Stays (V.tells volume.old) (V.tells volume.new) (V.leases volume.old) (V.leases volume.new)
             (V.refs volume.old) (V.refs volume.new) (V.faults volume.old) (V.faults volume.new) }
 
@@ -405,12 +398,12 @@ impl Log {
         ensures leaves { IsTrue (V.tells volume.old) → Passes (V.moment volume.old) (V.moment volume.new)
             (V.may_leave volume.old) (V.may_leave volume.new) (Rolls self.old
             (bytes_of (V.files volume.old) (body_file self.old)) (bytes_of (V.files volume.old) (ends_file self.old))) }
-        ensures durable { IsTrue (V.tells volume.old) → OnOk result ((left : Files)
-            → V.may_leave volume.new (V.moment volume.new) left
-            → get left (body_file self.old) ≡ get (V.files volume.old) (body_file self.old)) }
-        ensures marked { IsTrue (V.tells volume.old) → OnOk result ((left : Files) (mark : ℕ)
-            → V.may_leave volume.new (V.moment volume.new) left → (sealed_log self.old).marks ≡ mark + 1
-            → HasMark (sealed_log self.old) mark left) }
+        ensures body_first { IsTrue (V.tells volume.old) → BodyFirst self.old (V.files volume.old)
+            (V.may_leave volume.new (V.moment volume.new)) }
+        ensures settled { IsTrue (V.tells volume.old) → ¬ (IsErrOf result LogError.Device)
+            → (other : ℕ) → other ≢ ends_file self.old
+            → IsSettled other (V.files volume.old) (V.may_leave volume.old (V.moment volume.old))
+            → IsSettled other (V.files volume.new) (V.may_leave volume.new (V.moment volume.new)) }
     {
         let Some(file) = self.file.checked_add(1) else {
             return Err(LogError::NumbersSpent {

@@ -9,6 +9,7 @@ ghost use Rattle.xod_volume.specs.Crash.{Passes};
 ghost use Rattle.xod_volume.specs.Leases.{Stays};
 ghost use Rattle.xod_log.specs.declared.error.LogError.{LogError};
 ghost use Rattle.xod_log.specs.Ends.{body_of, ends_of};
+ghost use Rattle.xod_log.specs.Standing.{IsSettled};
 ghost use Rattle.xod_log.specs.Calls.{IsEmptyPair, MakesPair, no_mark};
 
 use crate::device::{append_synced, make_empty};
@@ -45,12 +46,16 @@ pub fn make_pair<V: Volume>(volume: &mut V, file: u32) -> Result<(), LogError>
         → get (V.files volume.new) other ≡ get (V.files volume.old) other }
     ensures durable { IsTrue (V.tells volume.old) → OnOk result ((left : Files)
         → V.may_leave volume.new (V.moment volume.new) left → IsEmptyPair file left) }
+    ensures settled { IsTrue (V.tells volume.old) → ¬ (IsErrOf result LogError.Device) → (other : ℕ)
+        → IsSettled other (V.files volume.old) (V.may_leave volume.old (V.moment volume.old))
+        → IsSettled other (V.files volume.new) (V.may_leave volume.new (V.moment volume.new)) }
     ensures kept { IsTrue (V.tells volume.old) → V.may_leave volume.old (V.moment volume.old) (V.files volume.old)
         → V.may_leave volume.new (V.moment volume.new) (V.files volume.new) }
     ensures crash { IsTrue (V.tells volume.old) → Passes (V.moment volume.old) (V.moment volume.new)
         (V.may_leave volume.old) (V.may_leave volume.new) (MakesPair file) }
     ensures numbers_left { (last : ℕ) → ¬ (IsErrOf result (LogError.NumbersSpent last)) }
     ensures failed { IsErrOf result LogError.Device → Rose (V.faults volume.old) (V.faults volume.new) }
+    ensures unfailed { ¬ (IsErrOf result LogError.Device) → V.faults volume.new ≡ V.faults volume.old }
     ensures stays { Stays (V.tells volume.old) (V.tells volume.new) (V.leases volume.old) (V.leases volume.new)
         (V.refs volume.old) (V.refs volume.new) (V.faults volume.old) (V.faults volume.new) }
 {

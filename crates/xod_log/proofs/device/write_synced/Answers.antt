@@ -1,4 +1,4 @@
-use Rattle.std.proofs.Common.{IsTrue, length, ◌∙◌, ap}
+use Rattle.std.proofs.Common.{IsTrue, length, ◌∙◌, ap, sym}
 use Rattle.std.specs.FinMap.{get}
 use Rattle.xod_volume.specs.Files.{Files}
 use Rattle.xod_volume.specs.Crash.{OnFile, OnBytes, Torn}
@@ -40,3 +40,8 @@ pub returns-clause-torn : goal.returns-clause-torn
 returns-clause-torn g c told =
     let t1 : IsTrue (g.V.Volume.tells c.write_at.new.self) = rw c.write_at.ensures.stays.tells told in
     same_after (OnFile c.args.file (OnBytes (Torn c.args.at (length c.args.bytes.now)))) _ _ _ (c.write_at.ensures.torn told) (c.sync.ensures.same t1)
+
+pub returns-clause-durable : goal.returns-clause-durable
+returns-clause-durable g c told left i =
+    let t1 : IsTrue (g.V.Volume.tells c.write_at.new.self) = rw c.write_at.ensures.stays.tells told in
+    c.in_ok-sync.ensures.durable t1 left i ∙ sym (ap (λ (f : Files). get f c.args.file) (c.sync.ensures.same t1))

@@ -1,7 +1,9 @@
 use Rattle.std.proofs.Common.{length, Err, ◌∙◌, ap, arith}
 use Rattle.xod_log.specs.Standing.{body_file}
 use Rattle.xod_log.proofs.Runs.{unmoved}
-use Rattle.xod_log.proofs.Appending.{memory_only, nothing_appended, stands_still, appended_stands, block_ends}
+use Rattle.std.proofs.lemmas.Result.{err_from_is_err_and}
+use Rattle.xod_log.proofs.Appending.{memory_only, on_error, nothing_appended, stands_still, appended_stands, block_ends}
+use Rattle.xod_log.proofs.Synced.{settled_still}
 use Rattle.xod_log.proofs.log.Log.append_here.Goals as goal
 
 pub returns-in_default-clause-crash : goal.returns-in_default-clause-crash
@@ -38,3 +40,9 @@ pub returns-clause-whole : goal.returns-clause-whole
 returns-clause-whole g c told =
     let log = c.args.self.now in
     block_ends log _ _ _ c.args.block.now (c.requires.stands told) (rw c.body_file.ensures at c.in_ok-append.ensures.appended told)
+
+pub returns-in_err-append-clause-settled : goal.returns-in_err-append-clause-settled
+returns-in_err-append-clause-settled g c told fine =
+    let memory = c.in_err-append.was {u = tt} ∙ ap (λ e. Err e) (memory_only c.in_err-append.field-0.0 c.from_residual.result c.from_residual.ensures.1 fine) in
+    let error = err_from_is_err_and c.from_residual.result c.from_residual.ensures.1 in
+    on_error c.from_residual.result error.0 error.1 (settled_still _ _ _ _ _ _ _ (c.append.ensures.unchanged told memory) (c.append.ensures.memory memory).moment (c.append.ensures.crash told))

@@ -1,11 +1,14 @@
-use Rattle.std.proofs.Common.{rules, IsTrue, ◌≡◌, ◌+◌, sym, subst, ap, ◌∙◌, arith}
+use Rattle.std.proofs.Common.{rules, IsTrue, ◌+◌, sym, subst}
 use Rattle.xod_volume.specs.Files.{bytes_of}
 use Rattle.xod_log.specs.declared.log.Log.{Log}
-use Rattle.xod_log.specs.Standing.{Stands, body_file, ends_file, sealed_log}
-use Rattle.xod_log.specs.Calls.{Rolls, MakesPair, HasMark}
+use Rattle.xod_log.specs.Standing.{Stands, body_file, ends_file}
+use Rattle.xod_log.specs.Calls.{Rolls, MakesPair, BodyFirst}
 use Rattle.xod_log.proofs.Runs.{rested}
 use Rattle.xod_log.proofs.Pairs.{empty_stands}
-use Rattle.xod_log.proofs.Rolling.{start_rolls, seal_rolls, pair_rolls, making_stands, sealed_file, mark_after}
+use Rattle.xod_log.proofs.Rolling.{start_rolls, seal_rolls, pair_rolls, making_apart, making_stands, first_after, stood_first}
+use Rattle.xod_log.proofs.Synced.{settled_after}
+use Rattle.xod_log.proofs.log.Log.make_next.Given.{Over}
+use Rattle.xod_log.proofs.log.Log.make_next.Goals.{After-make_pair}
 use Rattle.xod_log.proofs.log.Log.make_next.Goals as goal
 
 pub returns-in_default-clause-leaves : goal.returns-in_default-clause-leaves
@@ -77,16 +80,40 @@ returns-clause-leaves g c told =
     pair_rolls log B E (g.V.Volume.moment v0) (g.V.Volume.moment v1) (g.V.Volume.moment v2) (g.V.Volume.may_leave v0) (g.V.Volume.may_leave v1) (g.V.Volume.may_leave v2)
     (c.seal.ensures.leaves told) (rw c.in-Some.ensures.1 at c.make_pair.ensures.crash t1)
 
-pub returns-clause-marked : goal.returns-clause-marked
-returns-clause-marked g c told left mark i is =
-    let v1 = c.seal.new.volume in
-    let v2 = c.make_pair.new.volume in
-    let log = c.args.self.now in
-    let t1 : IsTrue (g.V.Volume.tells v1) = rw c.seal.ensures.stays.tells told in
-    let sealed : c.seal.new.self ≡ sealed_log log = c.in_ok-seal.ensures.log in
-    let file = sealed_file log in
-    mark_after (g.V.Volume.moment v1) (g.V.Volume.moment v2) (g.V.Volume.may_leave v1) (g.V.Volume.may_leave v2) (MakesPair (log.file + 1)) (sealed_log log) mark
-    (rw c.in-Some.ensures.1 at c.make_pair.ensures.crash t1)
-    (λ mid left made. made.others (ends_file (sealed_log log)) (λ e. omega (arith, file, e)) (λ e. omega (arith, file, e)))
-    (λ left i. subst (λ (l : Log). HasMark l mark left) sealed (c.in_ok-seal.ensures.marked told left mark i (ap (λ (l : Log). l.marks) sealed ∙ is)))
-    left i
+-- ---- the body comes before the mark
+
+pub returns-in_default-clause-body_first : goal.returns-in_default-clause-body_first
+returns-in_default-clause-body_first g c told = stood_first _ _ _ (c.requires.stands told)
+
+pub returns-in_err-seal-clause-body_first : goal.returns-in_err-seal-clause-body_first
+returns-in_err-seal-clause-body_first g c told = (c.seal.ensures.claims told).body_first
+
+made-first : (g : Over) (c : After-make_pair g) → IsTrue (g.V.Volume.tells c.args.volume.now)
+    → BodyFirst c.args.self.now (g.V.Volume.files c.args.volume.now) (g.V.Volume.may_leave c.make_pair.new.volume (g.V.Volume.moment c.make_pair.new.volume))
+made-first g c told =
+    let t1 : IsTrue (g.V.Volume.tells c.seal.new.volume) = rw c.seal.ensures.stays.tells told in
+    first_after c.args.self.now _ _ _ _ _ (MakesPair (c.args.self.now.file + 1)) (rw c.in-Some.ensures.1 at c.make_pair.ensures.crash t1) (making_apart c.args.self.now) (c.seal.ensures.claims told).body_first
+
+pub returns-in_err-make_pair-clause-body_first : goal.returns-in_err-make_pair-clause-body_first
+returns-in_err-make_pair-clause-body_first g c = made-first g (goal.at.returns-in_err-make_pair-clause-body_first g c).After-make_pair
+
+pub returns-clause-body_first : goal.returns-clause-body_first
+returns-clause-body_first g c = made-first g (goal.at.returns-clause-body_first g c).After-make_pair
+
+-- ---- what was settled
+
+pub returns-in_err-seal-clause-settled : goal.returns-in_err-seal-clause-settled
+returns-in_err-seal-clause-settled g c told fine other apart =
+    settled_after other _ _ _ _ _ _ _ (c.seal.ensures.leaves told) (λ was left s. s.others other apart) (c.seal.ensures.others told other apart)
+
+pub returns-in_err-make_pair-clause-settled : goal.returns-in_err-make_pair-clause-settled
+returns-in_err-make_pair-clause-settled g c told fine other apart was =
+    let t1 : IsTrue (g.V.Volume.tells c.seal.new.volume) = rw c.seal.ensures.stays.tells told in
+    c.make_pair.ensures.settled t1 (λ bad. search rules) other
+    (settled_after other _ _ _ _ _ _ _ (c.seal.ensures.leaves told) (λ was left s. s.others other apart) (c.seal.ensures.others told other apart) was)
+
+pub returns-clause-settled : goal.returns-clause-settled
+returns-clause-settled g c told fine other apart was =
+    let t1 : IsTrue (g.V.Volume.tells c.seal.new.volume) = rw c.seal.ensures.stays.tells told in
+    c.in_ok-make_pair.ensures.settled t1 (λ bad. search rules) other
+    (settled_after other _ _ _ _ _ _ _ (c.seal.ensures.leaves told) (λ was left s. s.others other apart) (c.seal.ensures.others told other apart) was)
