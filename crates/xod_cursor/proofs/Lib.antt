@@ -1,9 +1,14 @@
 pub mod Beginnings
+pub mod CallerLemmas
 pub mod Children
 pub mod Counting
 pub mod Damaging
+pub mod Descending
 pub mod Kept
 pub mod Passing
+pub mod Paths
+pub mod Rungs
+pub mod Starting
 pub mod Telling
 pub mod TrieEntries
 pub mod Walking

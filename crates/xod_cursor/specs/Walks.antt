@@ -44,13 +44,12 @@ abbrev pub IsBackReached : RecordsAt → Option Address → Option Start → Typ
 IsBackReached records root None = Unit {0}
 IsBackReached records root (Some start) = IsReached records root start.parent × Names (records (number_of start.parent)) start.at
 
--- the entries that are sought are those at an address that pass what is left of the key, and then those of the place
--- to come back to
-pub record Walks (records : RecordsAt) (strict : Bool) (key : List ℕ) (entries : List Entry) (at : ℕ) (rest : List ℕ) (back : Option Start) : Type 0 where
+-- the entries that are sought are those at an address that pass what is left of the key, and then others that are left
+pub record Walks (records : RecordsAt) (strict : Bool) (key : List ℕ) (entries : List Entry) (at : ℕ) (rest : List ℕ) (AreLeft : List Entry → Type 0) : Type 0 where
   pub pairs : Pairs
   pub pairs_is : map_at records at ≡ Some pairs
   pub done : List ℕ
   pub whole : key ≡ done ++ rest
   pub later : Pairs
   pub is : entries ≡ under done (kept (passes strict rest) pairs) ++ later
-  pub back_is : IsBack records back later
+  pub left : AreLeft later

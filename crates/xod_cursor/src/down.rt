@@ -1,5 +1,5 @@
 //! One step from a branch to a child of it.
-ghost use Rattle.std.specs.Prelude.{◌≡◌, ◌<◌, Option, IsTrue, IfOk, OnOk};
+ghost use Rattle.std.specs.Prelude.{◌≡◌, ◌<◌, ◌++◌, ◌∷◌, [], Option, IsTrue, IfOk, OnOk};
 ghost use Rattle.xod_base.specs.declared.causes.Place.{Place};
 ghost use Rattle.xod_base.specs.declared.causes.ReadError.TheVariants.{Damaged};
 ghost use Rattle.xod_base.specs.Views.{CountsFaults};
@@ -10,9 +10,18 @@ ghost use Rattle.xod_block.specs.Reading.{record_in};
 ghost use Rattle.xod_trie.specs.Damage.{IsDamaged, IsReached, Names};
 
 use std::alloc::Global;
-use xod_base::{Bytes, ReadError};
+use xod_base::{Bytes, Memory, ReadError};
 use xod_block::{Address, Fetch};
-use xod_trie::{place_of, read_record};
+use xod_trie::{copied, place_of, read_record};
+
+/// What the keys under a child begin with: a front, and the child's byte.
+pub fn with_byte(alloc: Global, front: &[u8], byte: u8) -> Result<Bytes, Memory>
+    ensures { IfOk result (λ longer. longer ≡ front.now ++ byte ∷ []) }
+{
+    let mut longer = copied(alloc, front)?;
+    longer.push(byte)?;
+    Ok(longer)
+}
 
 /// The bytes of the record at a child, in the room of a list whose bytes are let go.
 ///

@@ -4,9 +4,14 @@
 //! `xod_trie`, and what is least in it stands in `specs/Views.antt` of `xod_base`.
 #![tactic(auto)]
 
+mod cursor;
 mod down;
+mod enter;
 mod lowest;
+mod path;
+mod rung;
 mod walks;
 mod wanted;
 
+pub use cursor::Cursor;
 pub use walks::{next, seek};

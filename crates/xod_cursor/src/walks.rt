@@ -19,11 +19,11 @@ ghost use Rattle.xod_cursor.specs.Entries.{first_pair, kept};
 ghost use Rattle.xod_cursor.specs.Walks.{BeginsAt, IsBack, IsBackReached};
 ghost use Rattle.xod_cursor.specs.Wants.{HasChildren, entries_under, onward_children};
 
-use crate::down::read_child;
+use crate::down::{read_child, with_byte};
 use crate::lowest::lowest;
 use crate::wanted::{Onward, Wanted, wanted_at};
 use std::alloc::Global;
-use xod_base::{Bytes, Memory, Pair, ReadError};
+use xod_base::{Bytes, Pair, ReadError};
 use xod_block::{Address, Fetch, link_at, link_count};
 use xod_trie::{copied, place_of, read_record};
 
@@ -38,7 +38,7 @@ pub struct Start<'k> {
 }
 
 /// A key without what is left of it.
-fn before<'k>(key: &'k [u8], left: &[u8]) -> &'k [u8]
+pub fn before<'k>(key: &'k [u8], left: &[u8]) -> &'k [u8]
     ensures { (front : List ℕ) → key.now ≡ front ++ left.now → result.now ≡ front }
 {
     if left.len() > key.len() {
@@ -82,15 +82,6 @@ fn start_at<'k>(
     })
 }
 
-/// What the keys below a place to come back to begin with.
-fn front_of(alloc: Global, start: Start<'_>) -> Result<Bytes, Memory>
-    ensures { IfOk result (λ front. front ≡ start.entry.front.now ++ start.entry.byte ∷ []) }
-{
-    let mut front = copied(alloc, start.front)?;
-    front.push(start.byte)?;
-    Ok(front)
-}
-
 /// The pair with the least key below a place to come back to. Without one there is none.
 fn least_behind<F: Fetch>(
     fetch: &mut F,
@@ -110,7 +101,7 @@ fn least_behind<F: Fetch>(
     match back {
         None => Ok(None),
         Some(start) => {
-            let front = front_of(alloc, start)?;
+            let front = with_byte(alloc, start.front, start.byte)?;
             let bytes = read_child(fetch, alloc, start.parent, start.at, room)?;
             let pair = lowest(fetch, alloc, front, start.at, bytes)?;
             Ok(Some(pair))

@@ -28,7 +28,7 @@ down-init g c = record {
   read = c.in_ok-bytes.ensures.«record»;
   reached = λ told. AtRoot c.args.root refl;
   back_reached = λ told. tt;
-  walks = λ told pairs map. walks-first (g.F.Fetch.records c.args.fetch.now) c.args.strict c.args.key.now (number_of c.args.root) pairs map;
+  walks = λ told pairs map. walks-first (g.F.Fetch.records c.args.fetch.now) c.args.strict c.args.key.now (number_of c.args.root) pairs _ map refl;
 }
 
 pub returns-in-From-clause-least : goal.returns-in-From-clause-least
@@ -38,10 +38,10 @@ returns-in-From-clause-least g c told pairs map =
     let entries = kept (passes c.args.strict c.args.key.now) pairs in
     let w = c.down.invariant.walks told pairs map in
     let o = c.in-From.ensures.wanted records at w.pairs (ap record_in c.as_slice.ensures ∙ c.down.invariant.read told) w.pairs_is in
-    let back = c.start_at-start.ensures.back records _ o.others w.later (front-whole records c.args.strict c.args.key.now entries at c.down.rest.now c.down.back w c.in-From.onward o.whole) o.others_is w.back_is in
+    let back = c.start_at-start.ensures.back records _ o.others w.later (front-whole records c.args.strict c.args.key.now entries at c.down.rest.now (IsBack records c.down.back) w c.in-From.onward o.whole) o.others_is w.left in
     told-first (λ (r : RecordsAt). IsBack r c.start_at-start.result entries → IfOk c.least_behind-in-From.result (λ found. found ≡ first_pair entries)) c.down.invariant.stays
     (λ told. c.least_behind-in-From.ensures.least told entries) told
-    (subst (IsBack records c.start_at-start.result) (sym (walks-onward records c.args.strict c.args.key.now entries at c.down.rest.now c.down.back w c.in-From.onward o)) back)
+    (subst (IsBack records c.start_at-start.result) (sym (walks-onward records c.args.strict c.args.key.now entries at c.down.rest.now (IsBack records c.down.back) w c.in-From.onward o)) back)
 
 pub down-preserved : goal.down-preserved
 down-preserved g c =
@@ -59,6 +59,6 @@ down-preserved g c =
           let entries = kept (passes c.args.strict c.args.key.now) pairs in
           let w = c.down.invariant.walks told pairs map in
           let i = c.in-Into.ensures.wanted records at w.pairs (here told) w.pairs_is in
-          let back = c.start_at-back.ensures.back records _ i.others w.later (front-whole records c.args.strict c.args.key.now entries at c.down.rest.now c.down.back w c.in-Into.onward i.whole) i.others_is w.back_is in
-          walks-into records c.args.strict c.args.key.now entries at c.down.rest.now c.down.back w c.in-Into.onward _ c.in-Into.left.now c.start_at-back.result i back;
+          let back = c.start_at-back.ensures.back records _ i.others w.later (front-whole records c.args.strict c.args.key.now entries at c.down.rest.now (IsBack records c.down.back) w c.in-Into.onward i.whole) i.others_is w.left in
+          walks-into records c.args.strict c.args.key.now entries at c.down.rest.now (IsBack records c.down.back) w c.in-Into.onward _ c.in-Into.left.now (IsBack records c.start_at-back.result) i back;
     }

@@ -6,7 +6,7 @@ use Rattle.xod_block.specs.Reading.{record_in}
 use Rattle.xod_trie.specs.Damage.{IsReached}
 use Rattle.xod_trie.specs.Least.{passes}
 use Rattle.xod_cursor.specs.Entries.{kept}
-use Rattle.xod_cursor.specs.Walks.{IsBackReached, Walks}
+use Rattle.xod_cursor.specs.Walks.{IsBack, IsBackReached, Walks}
 use Rattle.xod_cursor.proofs.walks.walk_under.Given as goal
 
 abbrev pub invariant-down : goal.invariant-down
@@ -19,7 +19,7 @@ invariant-down g l =
       read : Told → record_in l.bytes ≡ records (number_of l.at);
       reached : Told → IsReached records (Some l.fn.root) l.at;
       back_reached : Told → IsBackReached records (Some l.fn.root) l.back;
-      walks : Told → (pairs : Pairs) → map_at records (number_of l.fn.root) ≡ Some pairs → Walks records l.strict l.key (kept (passes l.strict l.key) pairs) (number_of l.at) l.rest l.back;
+      walks : Told → (pairs : Pairs) → map_at records (number_of l.fn.root) ≡ Some pairs → Walks records l.strict l.key (kept (passes l.strict l.key) pairs) (number_of l.at) l.rest (IsBack records l.back);
     }
 
 abbrev pub decreases-down : goal.decreases-down
