@@ -1,5 +1,6 @@
 mod Marked
 mod Merges
+mod Pieced
 mod Placed
 mod Trees
 mod Views

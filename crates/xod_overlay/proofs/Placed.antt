@@ -19,7 +19,7 @@ pub not_true : (b : Bool) → not b ≡ true → b ≡ false
 not_true true e = absurd (true≢false (sym e))
 not_true false e = refl
 
-not_false : (b : Bool) → not b ≡ false → b ≡ true
+pub not_false : (b : Bool) → not b ≡ false → b ≡ true
 not_false true e = refl
 not_false false e = absurd (true≢false e)
 
@@ -45,6 +45,10 @@ first false b h = absurd h
 pub second : (a b : Bool) → T (a && b) → T b
 second true b h = h
 second false b h = absurd h
+
+pub both : (a b : Bool) → T a → T b → T (a && b)
+both true b h k = k
+both false b h k = h
 
 -- a test that is passed by all keys above one that passes it
 abbrev pub GoesUp : Test → Type 0
@@ -122,7 +126,7 @@ found_at key (e ∷ es) h = elim (bytes_cmp key e.0) as (λ r. bytes_cmp key e.0
 -- ---- one touch more
 
 -- where it stands it takes the mark
-pub set_is_put : (key : List ℕ) (mark : Mark) (es : List Touch) (d : Touch) → stands key es (place (not_below key) es) ≡ true
+set_is_put : (key : List ℕ) (mark : Mark) (es : List Touch) (d : Touch) → stands key es (place (not_below key) es) ≡ true
     → set es (place (not_below key) es) ((get_or es (place (not_below key) es) d).0, mark) ≡ put bytes_cmp key mark es
 set_is_put key mark [] d there = absurd (true≢false (sym there))
 set_is_put key mark (e ∷ es) d there =
@@ -135,7 +139,7 @@ set_is_put key mark (e ∷ es) d there =
     ] refl there
 
 -- and else it goes there
-pub insert_is_put : (key : List ℕ) (mark : Mark) (es : List Touch) → stands key es (place (not_below key) es) ≡ false
+insert_is_put : (key : List ℕ) (mark : Mark) (es : List Touch) → stands key es (place (not_below key) es) ≡ false
     → insert es (place (not_below key) es) (key, mark) ≡ put bytes_cmp key mark es
 insert_is_put key mark [] absent = refl
 insert_is_put key mark (e ∷ es) absent =
@@ -146,6 +150,19 @@ insert_is_put key mark (e ∷ es) absent =
       | Equal ↦ λ is absent. absurd (true≢false (sym (ap (λ (r : Ordering). is_some (cond (is_eq r) (Some e.1) None)) is) ∙ absent))
       | Greater ↦ λ is absent. ap (λ (l : List Touch). e ∷ l) (insert_is_put key mark es absent)
     ] refl absent
+
+pub put_there : (key : List ℕ) (mark : Mark) (es : List Touch) (at : ℕ) (now : Touch) → at ≡ place (not_below key) es → stands key es at ≡ true → now ≡ get_or es at now
+    → set es at (now.0, mark) ≡ put bytes_cmp key mark es
+put_there key mark es at now at_is there now_is =
+    ap (λ (t : Touch). set es at (t.0, mark)) now_is
+    ∙ ap (λ (n : ℕ). set es n ((get_or es n now).0, mark)) at_is
+    ∙ set_is_put key mark es now (ap (stands key es) (sym at_is) ∙ there)
+
+pub put_new : (key : List ℕ) (mark : Mark) (es : List Touch) (at : ℕ) → at ≡ place (not_below key) es → stands key es at ≡ false
+    → insert es at (key, mark) ≡ put bytes_cmp key mark es
+put_new key mark es at at_is absent =
+    ap (λ (n : ℕ). insert es n (key, mark)) at_is
+    ∙ insert_is_put key mark es (ap (stands key es) (sym at_is) ∙ absent)
 
 -- ---- the touches from a key on
 

@@ -1,18 +1,15 @@
 -- The touched keys of all trees by number.
-use Rattle.std.proofs.Common.{◌≡◌, ℕ, zero, suc, ◌<◌, Bool, true, false, cond, nat_eq, ◌==◌, List, [], ◌∷◌, ◌++◌, length, get_or, set, None, inl, inr, refl, sym, ap, subst, ◌∙◌, arith}
-use Rattle.std.specs.List as list
+use Rattle.std.proofs.Common.{◌≡◌, ℕ, zero, suc, ◌<◌, Bool, true, false, cond, nat_eq, ◌==◌, List, [], ◌∷◌, ◌++◌, length, get_or, set, None, inl, inr, refl, sym, ap, ◌∙◌, arith}
 use Rattle.std.proofs.lemmas.Bool.{cases_eq}
 use Rattle.std.proofs.lemmas.Bool.Decides.{nat_tests}
 use Rattle.std.proofs.lemmas.List.{get_or-set_same, get_or-set_other, get_or_default}
 use Rattle.std.specs.Prelude.{T}
 use Rattle.std.specs.FinMap.{get-empty, empty, empty_of_len, entries, entries-from_sorted, from_sorted, get, insert, entries-insert, is_sorted, len-entries, put, same_entries_map}
-use Rattle.std.specs.FinMap.Entries.{is_sorted-put}
-use Rattle.xod_base.specs.Views.{not_below}
-use Rattle.xod_overlay.specs.Places.{place, stands}
-use Rattle.xod_overlay.proofs.Placed.{set_is_put, insert_is_put}
 use Rattle.xod_base.specs.Values.{bytes_cmp}
 use Rattle.xod_overlay.specs.Marks.{Mark, Touch, TouchMap, touched, touching}
+use Rattle.xod_overlay.specs.Pieces.{joined, IsInPieces}
 use Rattle.xod_overlay.proofs.Marked.{order}
+use Rattle.xod_overlay.proofs.Pieced.{no_pieces}
 
 -- ---- one tree
 
@@ -22,16 +19,16 @@ no_touches = empty_of_len _ (len-entries _ ∙ ap length (entries-from_sorted by
 pub nothing_stands : (es : List Touch) → T (is_sorted bytes_cmp es) → from_sorted {R = bytes_cmp} es ≡ empty → es ≡ []
 nothing_stands es h is = sym (entries-from_sorted bytes_cmp es h) ∙ ap entries (is ∙ sym no_touches) ∙ entries-from_sorted bytes_cmp [] tt
 
-no_entries : (es : List Touch) → (length es == 0) ≡ true → es ≡ []
-no_entries [] e = refl
-no_entries (t ∷ es) e = absurd (grind (arith, nat_tests))
-
--- the map of some entries is empty exactly where there is none
-pub is_empty_map : (es : List Touch) (m : TouchMap) (b : Bool) → T (is_sorted bytes_cmp es) → from_sorted es ≡ m → b ≡ (length es == 0) → (b ≡ true → m ≡ empty) × (m ≡ empty → b ≡ true)
-is_empty_map es m b h is tested = (
-  λ yes. sym is ∙ ap (λ (l : List Touch). from_sorted {R = bytes_cmp} l) (no_entries es (sym tested ∙ yes)) ∙ no_touches,
-  λ none. tested ∙ ap (λ (l : List Touch). length l == 0) (nothing_stands es h (is ∙ none)),
+-- the map of some pieces is empty exactly where there is none
+pub is_empty_map : (pieces : List (List Touch)) (keys : TouchMap) (b : Bool) → IsInPieces pieces → from_sorted (joined pieces) ≡ keys → b ≡ (length pieces == 0) → (b ≡ true → keys ≡ empty) × (keys ≡ empty → b ≡ true)
+is_empty_map pieces keys b h is tested = (
+  λ begun. sym is ∙ ap (λ (ps : List (List Touch)). from_sorted {R = bytes_cmp} (joined ps)) (no_elements pieces (sym tested ∙ begun)) ∙ no_touches,
+  λ none. tested ∙ ap (λ (ps : List (List Touch)). length ps == 0) (no_pieces pieces h (nothing_stands (joined pieces) h.by_key (is ∙ none))),
 )
+  where
+    no_elements : (ps : List (List Touch)) → (length ps == 0) ≡ true → ps ≡ []
+    no_elements [] e = refl
+    no_elements (p ∷ ps) e = absurd (grind (arith, nat_tests))
 
 -- entries that are those with a touch put in are the map with it
 pub put_is_insert : (es fs : List Touch) (key : List ℕ) (mark : Mark) → T (is_sorted bytes_cmp es) → T (is_sorted bytes_cmp fs) → fs ≡ put bytes_cmp key mark es
@@ -41,30 +38,12 @@ put_is_insert es fs key mark h k is = same_entries_map _ _ (
     ∙ ap (put bytes_cmp key mark) (sym (entries-from_sorted bytes_cmp es h))
     ∙ sym (entries-insert order (from_sorted es) key mark))
 
--- sorted entries with a touch put in
-pub record PutIn (es fs : List Touch) (key : List ℕ) (mark : Mark) : Type 0 where
-  pub sorted : T (is_sorted bytes_cmp fs)
-  pub is : from_sorted {R = bytes_cmp} fs ≡ insert (from_sorted es) key mark
-
-put_in : (es fs : List Touch) (key : List ℕ) (mark : Mark) → T (is_sorted bytes_cmp es) → fs ≡ put bytes_cmp key mark es → PutIn es fs key mark
-put_in es fs key mark h is =
-    let sorted : T (is_sorted bytes_cmp fs) = subst (λ (l : List Touch). T (is_sorted bytes_cmp l)) (sym is) (is_sorted-put bytes_cmp order key mark es h) in
-    record { sorted = sorted; is = put_is_insert es fs key mark h sorted is }
-
--- where the key stands, its touch takes the mark
-pub put_there : (es : List Touch) (at : ℕ) (key : List ℕ) (mark : Mark) (now : Touch) → T (is_sorted bytes_cmp es) → at ≡ place (not_below key) es → stands key es at ≡ true
-    → now ≡ get_or es at now → PutIn es (set es at (now.0, mark)) key mark
-put_there es at key mark now h at_is there now_is = put_in es _ key mark h (
-    ap (λ (t : Touch). set es at (t.0, mark)) now_is
-    ∙ ap (λ (n : ℕ). set es n ((get_or es n now).0, mark)) at_is
-    ∙ set_is_put key mark es now (ap (stands key es) (sym at_is) ∙ there))
-
--- and else it goes to its place
-pub put_new : (es : List Touch) (at : ℕ) (key : List ℕ) (mark : Mark) → T (is_sorted bytes_cmp es) → at ≡ place (not_below key) es → stands key es at ≡ false
-    → PutIn es (list.insert es at (key, mark)) key mark
-put_new es at key mark h at_is absent = put_in es _ key mark h (
-    ap (λ (n : ℕ). list.insert es n (key, mark)) at_is
-    ∙ insert_is_put key mark es (ap (stands key es) (sym at_is) ∙ absent))
+-- what a touch makes of the pieces, it makes of their map
+pub touch_view : (old new : List (List Touch)) (key : List ℕ) (mark : Mark) (keys : TouchMap) (ok : Bool) → IsInPieces old → IsInPieces new → from_sorted (joined old) ≡ keys
+    → joined new ≡ cond ok (put bytes_cmp key mark (joined old)) (joined old) → from_sorted {R = bytes_cmp} (joined new) ≡ cond ok (insert keys key mark) keys
+touch_view old new key mark keys true h k keys_is is =
+    put_is_insert (joined old) (joined new) key mark h.by_key k.by_key is ∙ ap (λ (m : TouchMap). insert m key mark) keys_is
+touch_view old new key mark keys false h k keys_is is = ap (λ (l : List Touch). from_sorted {R = bytes_cmp} l) is ∙ keys_is
 
 -- ---- all trees
 

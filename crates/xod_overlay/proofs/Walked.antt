@@ -14,7 +14,7 @@ use Rattle.xod_overlay.proofs.Marked.{order}
 use Rattle.xod_overlay.proofs.Placed.{first, second, lesser, first_of_all}
 
 -- a touch that stands below all of a list stands below each of it
-below_one : (x : List ℕ) (before behind : List Touch) (touch : Touch) → T (below_all bytes_cmp x (before ++ touch ∷ behind)) → bytes_cmp x touch.0 ≡ Less
+pub below_one : (x : List ℕ) (before behind : List Touch) (touch : Touch) → T (below_all bytes_cmp x (before ++ touch ∷ behind)) → bytes_cmp x touch.0 ≡ Less
 below_one x [] behind touch h = lesser _ (first _ _ h)
 below_one x (e ∷ before) behind touch h = below_one x before behind touch (second _ _ h)
 

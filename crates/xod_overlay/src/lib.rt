@@ -8,6 +8,8 @@ mod laws;
 mod merging;
 mod overlaid;
 mod overlay;
+mod piece;
+mod rest;
 mod sorted;
 
 pub use laws::{

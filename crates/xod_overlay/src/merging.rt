@@ -4,8 +4,9 @@ ghost use Rattle.xod_base.specs.declared.causes.Place.{Place};
 ghost use Rattle.xod_base.specs.declared.causes.ReadError.TheVariants.{Damaged};
 ghost use Rattle.xod_base.specs.Views.{Tree, Answers, CountsFaults, KeepsView};
 ghost use Rattle.xod_overlay.specs.Merging.{found_cmp, merged};
+ghost use Rattle.xod_overlay.specs.Pieces.{rest_of};
 
-use crate::sorted::Touch;
+use crate::rest::Rest;
 use std::alloc::Global;
 use std::cmp::Ordering;
 use xod_base::{Bytes, Memory, Pair, ReadError, TreeView};
@@ -44,15 +45,16 @@ pub(crate) fn least_of_both<T: TreeView>(
     below: &mut T,
     alloc: Global,
     tree: u8,
-    touches: &[Touch],
+    touches: Rest<'_>,
     first: Option<Pair>,
 ) -> Result<Option<Pair>, ReadError>
-    ensures answers { Answers (T.tells below.old) (T.trees below.old tree) (λ base. merged base first touches.now) result }
+    ensures answers { Answers (T.tells below.old) (T.trees below.old tree) (λ base. merged base first (rest_of touches.entry)) result }
     ensures counts { CountsFaults (T.faults below.old) (T.faults below.new) result }
     ensures keeps { KeepsView T.tells T.trees T.commit T.refs T.faults below.old below.new }
 {
     let mut found = first;
-    for touch in touches {
+    let mut rest = touches;
+    while let Some((touch, later)) = rest.step() {
         let key = touch.0.as_slice();
         let order = order_of(&found, key);
         if order == Ordering::Less {
@@ -65,6 +67,7 @@ pub(crate) fn least_of_both<T: TreeView>(
         if order == Ordering::Equal {
             found = below.next(alloc, tree, key)?;
         }
+        rest = later;
     }
     Ok(found)
 }

@@ -3,9 +3,11 @@ ghost use Rattle.std.specs.Prelude.{◌≡◌, ◌↔◌, ◌<◌, ℕ, List, So
 ghost use Rattle.std.specs.FinMap.{empty, entries, get as mark_of};
 ghost use Rattle.std.specs.Option.{option_copied, option_map, unwrap_or};
 ghost use Rattle.xod_overlay.specs.Marks.{above_any, least_touch, touch_of, touched, touching};
+ghost use Rattle.xod_overlay.specs.Pieces.{rest_of};
 ghost use Rattle.xod_overlay.specs.Places.{from, passes};
 
-use crate::sorted::{Touch, TouchedKeys};
+use crate::rest::Rest;
+use crate::sorted::TouchedKeys;
 use std::alloc::Global;
 use std::marker::Model;
 use xod_base::{Bytes, Memory};
@@ -47,10 +49,10 @@ fn bytes_of(mark: &Option<Bytes>) -> Option<&[u8]>
 }
 
 /// The first of some touches.
-fn first_of(touches: &[Touch]) -> Option<Touched<'_>>
-    ensures { option_map touch_of result ≡ slice_get touches.now 0 }
+fn first_of(touches: Rest<'_>) -> Option<Touched<'_>>
+    ensures { option_map touch_of result ≡ slice_get (rest_of touches.entry) 0 }
 {
-    let touch = touches.first()?;
+    let (touch, _) = touches.step()?;
     Some(Touched {
         key: touch.0.as_slice(),
         value: bytes_of(&touch.1),
@@ -162,22 +164,22 @@ impl Overlay {
     }
 
     /// The touches of a tree from a key on, or above it, by rising key.
-    pub(crate) fn touches_from(&self, tree: u8, key: &[u8], strict: bool) -> &[Touch]
-        ensures { result.now ≡ from (passes strict key.now) (entries (touched self.now tree)) }
+    pub(crate) fn touches_from(&self, tree: u8, key: &[u8], strict: bool) -> Rest<'_>
+        ensures { rest_of result ≡ from (passes strict key.now) (entries (touched self.now tree)) }
     {
         match keys_of(self.trees.as_slice(), tree) {
-            None => &[],
+            None => Rest::none(),
             Some(keys) => keys.touches_from(key, strict),
         }
     }
 
     /// All touches of a tree, by rising key.
-    fn touches(&self, tree: u8) -> &[Touch]
-        ensures { result.now ≡ entries (touched self.now tree) }
+    fn touches(&self, tree: u8) -> Rest<'_>
+        ensures { rest_of result ≡ entries (touched self.now tree) }
     {
         match keys_of(self.trees.as_slice(), tree) {
-            None => &[],
-            Some(keys) => keys.as_slice(),
+            None => Rest::none(),
+            Some(keys) => keys.touches(),
         }
     }
 }

@@ -1,78 +1,138 @@
-//! The touched keys of one tree, by rising key.
+//! The touched keys of one tree, by rising key, in pieces.
 //!
-//! A key is looked up by halving. That needs no key of its own, so nothing here takes memory but a new touch.
-ghost use Rattle.std.specs.Prelude.{◌≡◌, ◌↔◌, ◌≤◌, length, not, T, IsTrue, is_ok, if◌then◌else◌, slice_get};
-ghost use Rattle.std.specs.FinMap.{empty, entries, get as mark_of, insert, is_sorted};
+//! A new touch moves those behind it in its piece alone, and a piece that is full is cut in two before. A key is looked
+//! up by halving, among the pieces and then within one. That needs no key of its own, so nothing here takes memory but
+//! a touch.
+ghost use Rattle.std.specs.Prelude.{◌≡◌, ◌↔◌, ◌≤◌, ◌<◌, ◌+◌, ◌-◌, [], false, slice_index_or, length, IsTrue, IfOk, is_ok, if◌then◌else◌};
+ghost use Rattle.std.specs.FinMap.{empty, entries, find, get as mark_of, insert, put};
 ghost use Rattle.std.specs.Option.{option_copied};
 ghost use Rattle.xod_base.specs.Values.{bytes_cmp};
-ghost use Rattle.xod_overlay.specs.Places.{from, mark_at, passes, place, stands};
+ghost use Rattle.xod_overlay.specs.Pieces.{begins_by, is_full_without, joined, rest_of, with_cut, IsInPieces, IsSeat};
+ghost use Rattle.xod_overlay.specs.Places.{from, passes};
 
+use crate::piece::Piece;
+use crate::rest::Rest;
 use std::alloc::Global;
-use std::cmp::Ordering;
 use std::marker::Model;
 use xod_base::{Bytes, Memory};
-
-/// A touched key, and its value or, where it is removed, none.
-pub(crate) type Touch = (Bytes, Option<Bytes>);
 
 /// The touches of one tree, each key once.
 #[derive(Debug, Drop)]
 pub(crate) struct TouchedKeys {
-    touches: Vec<Touch>,
+    pieces: Vec<Piece>,
 }
 
 impl Model for TouchedKeys {
-    ghost use Rattle.std.specs.Prelude.{ℕ, List, T};
+    ghost use Rattle.std.specs.Prelude.{ℕ, List};
     ghost use Rattle.std.specs.Coded.{coded_list, coded_option, coded_ℕ};
-    ghost use Rattle.std.specs.FinMap.{code, from_sorted, is_sorted};
-    ghost use Rattle.xod_base.specs.Values.{bytes_cmp};
+    ghost use Rattle.std.specs.FinMap.{code, from_sorted};
     ghost use Rattle.xod_overlay.specs.Marks.{TouchMap};
+    ghost use Rattle.xod_overlay.specs.Pieces.{joined, IsInPieces};
 
     ghost Value = { TouchMap };
 
     ghost coded = { code (coded_list coded_ℕ) (coded_option (coded_list coded_ℕ)) };
 
-    ghost view = { λ keys. from_sorted keys.touches.items };
+    ghost view = { λ keys. from_sorted (joined keys.pieces.items) };
 
-    ghost invariant = { λ keys. T (is_sorted bytes_cmp keys.touches.items) };
+    ghost invariant = { λ keys. IsInPieces keys.pieces.items };
 }
 
-/// Whether a key comes before those that are sought: the ones above a key or, where it may be met, not below it.
-fn is_before(key: &[u8], strict: bool, other: &[u8]) -> bool
-    ensures { result ≡ not (passes strict key.now other.now) }
+/// The piece that a key belongs to: the last that begins at the key or before it, or else the first.
+fn seat_of(pieces: &[Piece], key: &[u8]) -> usize
+    requires { IsInPieces pieces.now }
+    ensures seat { IsSeat key.now pieces.now result }
+    ensures last { result ≤ length pieces.now - 1 }
 {
-    match key.cmp(other) {
-        Ordering::Less => false,
-        Ordering::Equal => strict,
-        Ordering::Greater => true,
+    let begun = pieces.partition_point(|piece| piece.begins_by(key));
+    begun.saturating_sub(1)
+}
+
+/// What stands at a key in some pieces.
+fn mark_in<'a>(pieces: &'a [Piece], key: &[u8]) -> Option<&'a Option<Bytes>>
+    requires { IsInPieces pieces.now }
+    ensures { option_copied result ≡ find bytes_cmp key.now (joined pieces.now) }
+{
+    let piece = pieces.get(seat_of(pieces, key))?;
+    piece.mark(key)
+}
+
+/// The touches of some pieces from a key on, or above it.
+fn rest_from<'a>(pieces: &'a [Piece], key: &[u8], strict: bool) -> Rest<'a>
+    requires { IsInPieces pieces.now }
+    ensures { rest_of result ≡ from (passes strict key.now) (joined pieces.now) }
+{
+    let (_, behind) = pieces.split_at(seat_of(pieces, key));
+    match behind.split_first() {
+        None => Rest::none(),
+        Some((piece, later)) => Rest::new(piece.touches_from(key, strict), later),
     }
 }
 
-/// How many touches come before those that are sought.
-fn place_of(touches: &[Touch], key: &[u8], strict: bool) -> usize
-    requires { T (is_sorted bytes_cmp touches.now) }
-    ensures place { result ≡ place (passes strict key.now) touches.now }
-    ensures bound { result ≤ length touches.now }
+/// Cuts a piece in two. A refusal leaves all pieces as they were.
+fn cut_at(pieces: &mut Vec<Piece>, at: usize) -> Result<(), Memory>
+    requires { at < length pieces.old.items }
+    ensures { pieces.new.items
+        ≡ (if is_ok result then with_cut pieces.old.items at else pieces.old.items) }
 {
-    touches.partition_point(|touch| is_before(key, strict, touch.0.as_slice()))
+    pieces.reserve(1)?;
+    let back = pieces[at].cut()?;
+    pieces.insert(at + 1, back)?;
+    Ok(())
 }
 
-/// The mark at a place, where a key stands there.
-fn mark_of_key<'a>(touches: &'a [Touch], at: usize, key: &[u8]) -> Option<&'a Option<Bytes>>
-    ensures { option_copied result ≡ mark_at key.now (slice_get touches.now at) }
+/// The half that a key belongs to, once the piece at a place is cut in two.
+fn half_of(pieces: &[Piece], at: usize, key: &[u8]) -> usize
+    requires { at + 1 < length pieces.now }
+    ensures { result
+        ≡ (if begins_by key.now (slice_index_or pieces.now (at + 1) []) then at + 1 else at) }
 {
-    let touch = touches.get(at)?;
-    match key.cmp(touch.0.as_slice()) {
-        Ordering::Equal => Some(&touch.1),
-        _ => None,
+    if pieces[at + 1].begins_by(key) {
+        at + 1
+    } else {
+        at
     }
 }
 
-/// Whether a key stands at a place.
-fn stands_at(touches: &[Touch], at: usize, key: &[u8]) -> bool
-    ensures { result ≡ stands key.now touches.now at }
+/// The piece that a key belongs to, with room for it: one that is full is cut in two. The touches stay.
+fn seat_with_room(pieces: &mut Vec<Piece>, key: &[u8]) -> Result<usize, Memory>
+    requires in_pieces { IsInPieces pieces.old.items }
+    requires some { 0 < length pieces.old.items }
+    ensures in_pieces { IsInPieces pieces.new.items }
+    ensures same { joined pieces.new.items ≡ joined pieces.old.items }
+    ensures seat { IfOk result (IsSeat key.now pieces.new.items) }
+    ensures within { IfOk result (λ at. at < length pieces.new.items) }
+    ensures room { IfOk result (λ at.
+        is_full_without key.now (slice_index_or pieces.new.items at []) ≡ false) }
 {
-    mark_of_key(touches, at, key).is_some()
+    let at = seat_of(pieces.as_slice(), key);
+    if !pieces[at].is_full_without(key) {
+        return Ok(at);
+    }
+    cut_at(pieces, at)?;
+    Ok(half_of(pieces.as_slice(), at, key))
+}
+
+/// Touches a key in some pieces, in place of what stood there. A refusal leaves the touches as they were.
+fn touch_in(
+    pieces: &mut Vec<Piece>,
+    alloc: Global,
+    key: &[u8],
+    mark: Option<Bytes>,
+) -> Result<(), Memory>
+    requires { IsInPieces pieces.old.items }
+    ensures in_pieces { IsInPieces pieces.new.items }
+    ensures touches { joined pieces.new.items
+        ≡ (if is_ok result then put bytes_cmp key.now mark (joined pieces.old.items)
+        else joined pieces.old.items) }
+{
+    if pieces.is_empty() {
+        pieces.push(Piece::of_one(alloc, key, mark)?)?;
+        return Ok(());
+    }
+    let at = seat_with_room(pieces, key)?;
+    pieces[at].touch(alloc, key, mark)?;
+    Ok(())
 }
 
 impl TouchedKeys {
@@ -81,7 +141,7 @@ impl TouchedKeys {
         ensures { result ≡ empty }
     {
         TouchedKeys {
-            touches: Vec::new(alloc),
+            pieces: Vec::new(alloc),
         }
     }
 
@@ -89,31 +149,28 @@ impl TouchedKeys {
     pub(crate) fn is_empty(&self) -> bool
         ensures { IsTrue result ↔ (self.now ≡ empty) }
     {
-        self.touches.as_slice().is_empty()
+        self.pieces.as_slice().is_empty()
     }
 
     /// The touches from a key on, or above it, by rising key.
-    pub(crate) fn touches_from(&self, key: &[u8], strict: bool) -> &[Touch]
-        ensures { result.now ≡ from (passes strict key.now) (entries self.now) }
+    pub(crate) fn touches_from(&self, key: &[u8], strict: bool) -> Rest<'_>
+        ensures { rest_of result ≡ from (passes strict key.now) (entries self.now) }
     {
-        let touches = self.touches.as_slice();
-        let (_, from) = touches.split_at(place_of(touches, key, strict));
-        from
+        rest_from(self.pieces.as_slice(), key, strict)
     }
 
     /// All touches, by rising key.
-    pub(crate) fn as_slice(&self) -> &[Touch]
-        ensures { result.now ≡ entries self.now }
+    pub(crate) fn touches(&self) -> Rest<'_>
+        ensures { rest_of result ≡ entries self.now }
     {
-        self.touches.as_slice()
+        Rest::new(&[], self.pieces.as_slice())
     }
 
     /// What stands at a key, and `None` where it is not touched.
     pub(crate) fn get(&self, key: &[u8]) -> Option<&Option<Bytes>>
         ensures { option_copied result ≡ mark_of self.now key.now }
     {
-        let at = place_of(self.touches.as_slice(), key, false);
-        mark_of_key(self.touches.as_slice(), at, key)
+        mark_in(self.pieces.as_slice(), key)
     }
 
     /// Touches a key, in place of what stood there. A refusal leaves all as it was.
@@ -125,13 +182,6 @@ impl TouchedKeys {
     ) -> Result<(), Memory>
         ensures { self.new ≡ (if is_ok result then insert self.old key.now mark else self.old) }
     {
-        let at = place_of(self.touches.as_slice(), key, false);
-        if stands_at(self.touches.as_slice(), at, key) {
-            self.touches[at].1 = mark;
-            return Ok(());
-        }
-        let key = Bytes::from_vec(Vec::from_slice(alloc, key)?);
-        self.touches.insert(at, (key, mark))?;
-        Ok(())
+        touch_in(&mut self.pieces, alloc, key, mark)
     }
 }

@@ -11,4 +11,4 @@ returns-in-None c =
     let none : empty ≡ touched c.args.self.now c.args.tree =
     ap (λ (o : Option (Bor TouchMap)). unwrap_or (option_copied o) empty) (sym c.in-None.is) ∙ c.keys_of.ensures
     ∙ ap (λ (l : List TouchMap). touched l c.args.tree) (c.as_slice.ensures.value ∙ c.self.view_is) in
-    sym (entries-none (touched c.args.self.now c.args.tree) none)
+    c.none.ensures ∙ sym (entries-none (touched c.args.self.now c.args.tree) none)

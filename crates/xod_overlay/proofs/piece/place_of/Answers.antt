@@ -2,7 +2,7 @@ use Rattle.std.proofs.Common.{rules, not}
 use Rattle.std.proofs.lemmas.List.Sorted.{IsPartitionPoint-from_clause}
 use Rattle.xod_overlay.specs.Places.{passes}
 use Rattle.xod_overlay.proofs.Placed.{partitioned, passes_up, place_is}
-use Rattle.xod_overlay.proofs.sorted.place_of.Goals as goal
+use Rattle.xod_overlay.proofs.piece.place_of.Goals as goal
 
 pub returns-clause-place : goal.returns-clause-place
 returns-clause-place c =
