@@ -1,0 +1,4 @@
+pub mod CallerLemmas
+pub mod Listed
+pub mod Rising
+pub mod Setting
