@@ -1,0 +1,3 @@
+mod KeepingLemmas
+mod PairLemmas
+mod SpaceLemmas
