@@ -16,10 +16,12 @@ mod table;
 mod volume;
 mod walk;
 
+pub use body::Body;
 pub use fate::Crash;
 pub use history::{Call, Deed};
 pub use laws::reads_may_be_left;
 pub use lease::MemoryLease;
 pub use memory::MemoryVolume;
 pub use patch::Patch;
+pub use table::FileTable;
 pub use volume::{Lease, Volume, VolumeError};
