@@ -11,4 +11,5 @@ mod shown;
 
 pub use lease_fetch::LeaseFetch;
 pub use pages::Pages;
+pub use reading::read_record;
 pub use shown::LONGEST_RECORD;

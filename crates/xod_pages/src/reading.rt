@@ -72,8 +72,9 @@ fn look_by<L: Lease>(
     Ok(shown)
 }
 
-/// Puts the bytes of the record at an address at the end of `out`, and answers how many they are.
-pub(crate) fn read_record<L: Lease>(
+/// Puts the bytes of the record at an address at the end of `out`, and answers how many they are. Pieces are read into
+/// the room, which grows as far as a record needs it.
+pub fn read_record<L: Lease>(
     lease: &mut L,
     room: &mut Vec<u8>,
     at: Address,
