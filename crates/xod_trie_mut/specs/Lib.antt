@@ -1,0 +1,13 @@
+pub mod Changes
+pub mod Compacts
+pub mod Damaged
+pub mod Fingers
+pub mod Frames
+pub mod Keeps
+pub mod Links
+pub mod Own
+pub mod Saves
+pub mod Seats
+pub mod Settling
+pub mod Stops
+pub mod TrieCode
