@@ -1,0 +1,7 @@
+//! The tests, a module for each subject.
+mod deep;
+mod edges;
+mod failing;
+mod mixed;
+mod store;
+mod worked;
