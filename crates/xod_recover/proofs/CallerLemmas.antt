@@ -1,0 +1,17 @@
+-- What the crates above cite of good files.
+-- how many marks are open: the count, and what follows an open one
+pub use Rattle.xod_recover.proofs.Opening.{opened-first, opens-followed, opened-more, opened-end}
+-- which log file is used last
+pub use Rattle.xod_recover.proofs.Using.{body_of-log_file_of, last_used-first}
+-- the first bad place by what stands at an address, and nothing bad in what is whole
+pub use Rattle.xod_recover.proofs.BadLemmas.{bad_under-step, bad_under-below, bad_under-above, bad_under-absent, Agree, bad_trees-agree}
+pub use Rattle.xod_recover.proofs.Wholes.{none-whole, whole-none, trees-whole}
+-- records up to a place, and how many bytes a record takes
+pub use Rattle.xod_recover.proofs.Cutting.{record_in-take, records_of-cut}
+pub use Rattle.xod_recover.proofs.Taking.{FewTrees, Begins, record_at-begins}
+-- the newest root, and the log file that it stands in
+pub use Rattle.xod_recover.proofs.Newests.{greatest-used, used-parts, check-newest, newest-check, body-numbers}
+-- trees of good files
+pub use Rattle.xod_recover.proofs.Storing.{good-maps, stored-maps}
+-- reads of a volume in a row
+pub use Rattle.xod_recover.proofs.OnlyReading.{reads-none, reads-then, reads-over, reads-on, rose-later}

@@ -1,0 +1,32 @@
+//! Opening a store: which root is the newest that is durable, and whether all that it reaches is
+//! there.
+//!
+//! `find_newest` only reads. What it decides stands in `specs/Check.antt`: the newest root of good
+//! files, or the first bad place. `cut_tail` and `clear_above` are what an opening writes then, and
+//! `specs/Tails.antt` has what a crash may leave of it.
+#![tactic(auto)]
+
+mod above;
+mod device;
+mod ends;
+mod enter;
+mod error;
+mod laws;
+mod near;
+mod newest;
+mod reach;
+mod root;
+mod sealed;
+mod tail;
+mod used;
+mod walk;
+
+pub use above::clear_above;
+pub use error::OpenError;
+pub use laws::{
+    good_trees_have_maps, later_records_change_no_walk, nothing_is_bad_exactly_in_whole_tries,
+    records_count_where_they_end, the_newest_root_is_found,
+};
+pub use near::{near_images_store_what_was_found, settled_volumes_are_near};
+pub use newest::{Found, find_newest};
+pub use tail::cut_tail;
