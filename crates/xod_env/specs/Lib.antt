@@ -1,3 +1,5 @@
 pub mod Bodies
+pub mod EnvCalls
+pub mod Envs
 pub mod Errors
 pub mod Snapshots

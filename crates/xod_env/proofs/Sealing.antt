@@ -1,0 +1,109 @@
+-- What a seal leaves of an environment: the ends of the current log file alone may differ.
+use Rattle.std.proofs.Common.{◌≡◌, ℕ, ◌+◌, ◌-◌, ◌*◌, ◌&&◌, Bool, true, false, cond, if◌then◌else◌, Some, None, drop, refl, sym, ◌∙◌, ap, arith, inl, inr}
+use mathlib.Core.Logic.{◌≢◌}
+use Rattle.std.specs.Prelude.{is_some}
+use Rattle.std.specs.FinMap.{contains_key, get, len, get-retain_keys, nat_cmp-IsAntisymmetric}
+use Rattle.std.proofs.lemmas.Bool.{cases_eq}
+use Rattle.std.proofs.lemmas.Bool.Decides.{nat_tests}
+use Rattle.xod_log.specs.declared.log.Log.{Log}
+use Rattle.xod_log.specs.Ends.{ends_of}
+use Rattle.xod_log.specs.Standing.{Stands, body_file, ends_file, last_file, sealed_log}
+use Rattle.xod_root.specs.Roots.{Roots}
+use Rattle.xod_volume.specs.Files.{Content, Files, bytes_in, bytes_of}
+use Rattle.xod_volume.proofs.CallerLemmas.{same_files}
+use Rattle.xod_env.specs.Bodies.{is_body_up_to}
+use Rattle.xod_env.specs.Envs.{IsOpenOn, bodies_up_to, log_bodies, log_file_count}
+
+-- ---- files
+
+-- the ends of a log file are no body
+body_apart : (current number file : ℕ) → is_body_up_to current number ≡ true → number ≢ ends_of file
+body_apart current number file is same = grind (arith, nat_tests)
+
+where_kept : (b : Bool) (x y : Content) → (b ≡ true → x ≡ y) → cond b x None ≡ cond b y None
+where_kept true x y same = same refl
+where_kept false x y same = refl
+
+first_of : (a b : Bool) → (a && b) ≡ true → a ≡ true
+first_of true b is = refl
+first_of false b is = is
+
+module _ (file : ℕ) (before now : Files) (others : (other : ℕ) → other ≢ ends_of file → get now other ≡ get before other) where
+  -- the bodies are as they were
+  pub same_bodies : (current : ℕ) → bodies_up_to current now ≡ bodies_up_to current before
+  same_bodies current = same_files _ _ (λ number.
+      get-retain_keys now (is_body_up_to current) number (λ x e. ap (is_body_up_to current) (sym (nat_cmp-IsAntisymmetric number x e)))
+      ∙ where_kept (is_body_up_to current number) (get now number) (get before number) (λ is. others number (body_apart current number file is))
+      ∙ sym (get-retain_keys before (is_body_up_to current) number (λ x e. ap (is_body_up_to current) (sym (nat_cmp-IsAntisymmetric number x e)))))
+
+  module _ (was_there : is_some (get before (ends_of file)) ≡ true) (is_there : is_some (get now (ends_of file)) ≡ true) where
+    same_there : (other : ℕ) → is_some (get now other) ≡ is_some (get before other)
+    same_there other = elim (cases_eq other (ends_of file)) [
+      | inl is ↦ ap (λ (n : ℕ). is_some (get now n)) is ∙ is_there ∙ sym was_there ∙ ap (λ (n : ℕ). is_some (get before n)) (sym is)
+      | inr not ↦ ap is_some (others other not)
+    ]
+
+    abbrev test : Files → ℕ → Bool
+    test files number = is_body_up_to last_file number && contains_key files (number + 1)
+
+    get_body : (files : Files) (number : ℕ) → get (log_bodies files) number ≡ cond (test files number) (get files number) None
+    get_body files number = get-retain_keys files (test files) number (λ x e. ap (test files) (sym (nat_cmp-IsAntisymmetric number x e)))
+
+    -- there are as many log files
+    pub same_count : log_file_count now ≡ log_file_count before
+    same_count = ap (λ (files : Files). len files) (same_files (log_bodies now) (log_bodies before) (λ number.
+        get_body now number
+        ∙ ap (λ (b : Bool). cond (is_body_up_to last_file number && b) (get now number) None) (same_there (number + 1))
+        ∙ where_kept (test before number) (get now number) (get before number)
+        (λ is. others number (body_apart last_file number file (first_of (is_body_up_to last_file number) (contains_key before (number + 1)) is)))
+        ∙ sym (get_body before number)))
+
+-- ---- the log
+
+-- It has come as far as it had.
+pub record IsAsFar (before now : Log) : Type 0 where
+  pub file : now.file ≡ before.file
+  pub end : now.end ≡ before.end
+  pub back : now.back ≡ before.back
+
+as_far : (log : Log) → IsAsFar log log
+as_far log = record { file = refl; end = refl; back = refl }
+
+either_far : (b : Bool) (log one other : Log) → IsAsFar log one → IsAsFar log other → IsAsFar log (if b then one else other)
+either_far true log one other h k = h
+either_far false log one other h k = k
+
+sealed_far : (log : Log) → IsAsFar log (sealed_log log)
+sealed_far log = either_far log.is_sealed log log (record log { marks = log.marks + 1; is_sealed = true }) (as_far log) (record { file = refl; end = refl; back = refl })
+
+pub answered_far : (b : Bool) (log : Log) → IsAsFar log (if b then sealed_log log else log)
+answered_far b log = either_far b log (sealed_log log) log (sealed_far log) (as_far log)
+
+-- ---- the environment
+
+module _ (log after : Log) (roots : Roots) (commit count : ℕ) (before now : Files) (past images : Files → Type 0) where
+  -- it is open where the log stands after a seal
+  pub sealed_open : IsOpenOn log roots commit count before past → IsAsFar log after
+      → ((other : ℕ) → other ≢ ends_file log → get now other ≡ get before other)
+      → Stands after now images → IsOpenOn after roots commit count now images
+  sealed_open opened far others stands =
+      let own : get now (body_file after) ≡ get before (body_file log) =
+      ap (λ (n : ℕ). get now (2 * n)) far.file ∙ others (body_file log) (λ e. omega (arith, e)) in
+      let body : bytes_of now (body_file after) ≡ bytes_of before (body_file log) = ap bytes_in own in
+      let there : get now (ends_file log) ≡ Some (bytes_of now (ends_file after)) =
+      ap (λ (n : ℕ). get now (2 * n + 1)) (sym far.file) ∙ stands.has_ends in
+      let newest = opened.newest in
+      record {
+        stands = stands;
+        newest = record {
+          no_commit = λ e. newest.no_commit (sym far.end ∙ e);
+          no_roots = λ e. newest.no_roots (sym far.end ∙ e);
+          within = omega (arith, far.end, far.back, newest.within);
+          root = λ lt.
+              let size : after.end - after.back ≡ log.end - log.back = omega (arith, far.end, far.back) in
+              ap (λ (n : ℕ). drop n (bytes_of now (body_file after))) size
+              ∙ ap (drop (log.end - log.back)) body
+              ∙ newest.root (omega (arith, far.end, lt));
+        };
+        counted = opened.counted ∙ sym (same_count log.file before now others (ap is_some opened.stands.has_ends) (ap is_some there));
+      }
