@@ -176,3 +176,20 @@ module _ (start : Files) (calls later : List Call) (call : Call) (adds : later �
   pub reads_now : reads (get start call.file) (on_file call.file (reverse calls)) ≡ get (files_now start calls) call.file
   unfolding files_now
   reads_now = sym (files_reads start (reverse calls) call.file)
+
+  -- what comes by a step on the call's file of what might have been left before may be left
+  pub stepped_left : (step : Content → Content → Type 0)
+      → ((o n : Content) → Leaves (get start call.file) (on_file call.file (reverse calls)) o → step o n → Leaves (get start call.file) (call.deed ∷ on_file call.file (reverse calls)) n)
+      → (c d : Files) → image_at start calls (length calls) c → OnFile call.file step c d → image_at start later (length later) d
+  unfolding image_at
+  stepped_left step more c d i goes f =
+      let all : take (length calls) calls ≡ calls = take_all (length calls) calls (omega arith) in
+      let was : (g : ℕ) → Leaves (get start g) (on_file g (reverse calls)) (get c g) = λ g. subst (λ (l : List Call). Leaves (get start g) (on_file g (reverse l)) (get c g)) all (i g) in
+      let last : reverse (take (length later) later) ≡ call ∷ reverse calls = ap reverse (take_all (length later) later (omega arith) ∙ adds) ∙ turned calls call in
+      subst (λ (l : List Call). Leaves (get start f) (on_file f l) (get d f)) (sym last) (elim (cases_eq f call.file) [
+        | inl same ↦ subst (λ (g : ℕ). Leaves (get start g) (on_file g (call ∷ reverse calls)) (get d g)) (sym same)
+            (subst (λ (l : List Deed). Leaves (get start call.file) l (get d call.file)) (sym (on_same call (reverse calls)))
+            (more (get c call.file) (get d call.file) (was call.file) goes.here))
+        | inr not ↦ subst (λ (l : List Deed). Leaves (get start f) l (get d f)) (sym (on_other f call (reverse calls) not))
+            (subst (Leaves (get start f) (on_file f (reverse calls))) (sym (goes.others f not)) (was f))
+      ])

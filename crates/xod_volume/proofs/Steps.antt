@@ -8,7 +8,7 @@ use Rattle.xod_volume.specs.declared.history.Deed.{Deed}
 use Rattle.xod_volume.specs.declared.history.Deed.TheVariants.{Sync, Tear, Nothing}
 use Rattle.xod_volume.specs.Record.{By, Leaves, on_file, IsImage, files_now, image_at, Adds, MayAdd}
 use Rattle.xod_volume.proofs.OneFile.{OnBytes-torn}
-use Rattle.xod_volume.proofs.AllFiles.{on_same, on_other, rests, idle, now_left, by_step, by_nothing, by_sync, durable, still_left, OnFile-same}
+use Rattle.xod_volume.proofs.AllFiles.{on_same, on_other, rests, idle, now_left, by_step, by_nothing, by_sync, durable, still_left, stepped_left, OnFile-same}
 use Rattle.std.proofs.lemmas.Bool.{cases_eq}
 
 -- what reads give is among what a crash may leave
@@ -81,3 +81,10 @@ module _ (start begun : Files) (calls later : List Call) (same : begun ≡ start
         → ((o : Content) → Leaves (get start call.file) (on_file call.file (reverse calls)) o → Leaves (get start call.file) (call.deed ∷ on_file call.file (reverse calls)) o)
         → (c : Files) → image_at start calls (length calls) c → image_at begun later (length later) c
     fail_left may more c i = elim may [ inl is ↦ idle_left is c i | inr adds ↦ step_left adds more c i ]
+
+    -- one that failed, and tore
+    pub torn_left : Adds call calls later → (at n : ℕ) → call.deed ≡ Tear at n → (c d : Files) → image_at start calls (length calls) c
+        → OnFile call.file (OnBytes (Torn at n)) c d → image_at begun later (length later) d
+    torn_left adds at n tear c d i goes = subst (λ (s : Files). image_at s later (length later) d) (sym same)
+        (stepped_left start calls later call adds (OnBytes (Torn at n))
+        (λ o p was does. subst (λ (e : Deed). Leaves (get start call.file) (e ∷ on_file call.file (reverse calls)) p) (sym tear) (o, was, does)) c d i goes)

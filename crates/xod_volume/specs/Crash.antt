@@ -1,5 +1,5 @@
 -- What one call does to what a crash may leave.
-use Rattle.std.specs.Prelude.{◌≡◌, ◌≤◌, ◌⊎◌, ℕ, ◌+◌, max, List, [], length, take, drop, Some, None}
+use Rattle.std.specs.Prelude.{◌≡◌, ◌≤◌, ◌<◌, ◌⊎◌, ℕ, ◌+◌, max, List, [], length, take, drop, Some, None}
 use mathlib.Core.Logic.{◌≢◌}
 use Rattle.std.specs.FinMap.{get}
 use Rattle.xod_volume.specs.Files.{Files, Content}
@@ -51,6 +51,11 @@ pub record Rests (before now : ℕ) (past images : ℕ → Files → Type 0) : T
   pub still : now ≡ before
   pub same : (moment : ℕ) (files : Files) → images moment files → past moment files
   pub kept : (moment : ℕ) (files : Files) → past moment files → images moment files
+
+-- A call takes the room of one call at most, and one that fails where there is room is noted: time goes on.
+pub record Noted (failed : Type 0) (room_before room_now before now : ℕ) : Type 0 where
+  pub takes_one : room_before ≤ room_now + 1
+  pub goes_on : failed → 0 < room_before → before < now
 
 -- What a crash may leave at some moment from `since` to now.
 abbrev pub LeftSince : ℕ → ℕ → (ℕ → Files → Type 0) → Files → Type 0

@@ -29,9 +29,10 @@ pub record Filled (bytes : List ℕ) (at : ℕ) (before after : List ℕ) (n : �
   pub front : take n after ≡ take n (drop at bytes)
   pub rest : drop n after ≡ drop n before
 
--- A count came to that of a lease, up to the last number that a u64 has.
-abbrev pub Added : ℕ → ℕ → ℕ → Type 0
-Added before own now = min (before + own) (2 ^ 64 - 1) ≤ now
+-- A count came to that of a lease, up to the last number that a u64 has, and no more came to it.
+pub record Added (before own now : ℕ) : Type 0 where
+  pub at_least : min (before + own) (2 ^ 64 - 1) ≤ now
+  pub no_more : now ≤ before + own
 
 -- What nearly every call leaves: whether the volume tells, the leases out, and the references that it holds are as
 -- they were, and its count of faults has not fallen.

@@ -3,10 +3,10 @@
 //! `MemoryVolume` hands in each call that was not to fail. Here the call comes to the record and the files change, or
 //! neither does: room for the record is taken first, then the files change, and then the call is put into the room. That
 //! the files are what the record says is the ghost field of `Disk`.
-ghost use Rattle.std.specs.Prelude.{◌≡◌, ◌≤◌, ◌<◌, ◌+◌, ◌++◌, ◌∷◌, [], length, take, IfOk, IsOk, OnOk, OnErr, IsNone, IsSome, IsTrue, MatchBool, vec_capacity};
+ghost use Rattle.std.specs.Prelude.{⊤, ◌≡◌, ◌≤◌, ◌<◌, ◌+◌, ◌++◌, ◌∷◌, [], length, take, IfOk, IsOk, OnOk, OnErr, IsNone, IsSome, IsTrue, MatchBool, vec_capacity};
 ghost use Rattle.std.specs.FinMap.{get, insert, remove};
 ghost use Rattle.xod_volume.specs.declared.history.Deed.{Deed};
-ghost use Rattle.xod_volume.specs.declared.history.Deed.TheVariants.{Create, Append, WriteAt, Cut, Sync, Remove};
+ghost use Rattle.xod_volume.specs.declared.history.Deed.TheVariants.{Create, Append, WriteAt, Cut, Sync, Remove, Tear};
 ghost use Rattle.xod_volume.specs.Files.{Content, bytes_of, size_of, overwritten};
 ghost use Rattle.xod_volume.specs.Record.{done, files_now, MayAdd, Adds, HasRoom};
 
@@ -32,6 +32,7 @@ const SPARE: usize = 1024;
 /// Takes room in a record for one call more, and after it for as many as there are files, and the spare ones.
 fn make_room(calls: &mut Vec<Call>, files: usize) -> Result<(), Memory>
     ensures items { calls.new.items ≡ calls.old.items }
+    ensures grows { vec_capacity calls.old ≤ vec_capacity calls.new }
     ensures room { OnOk result (length calls.new.items + 1 + files + 1024 ≤ vec_capacity calls.new) }
 {
     let Some(wanted) = files.checked_add(1 + SPARE) else {
@@ -80,6 +81,7 @@ impl Disk {
         ensures start { self.new.start ≡ self.old.start }
         ensures table { self.new.table ≡ self.old.table }
         ensures calls { self.new.calls.items ≡ self.old.calls.items }
+        ensures grows { vec_capacity self.old.calls ≤ vec_capacity self.new.calls }
         ensures room { OnOk result (HasRoom self.new.table (length self.new.calls.items)
             (vec_capacity self.new.calls)) }
     {
@@ -92,6 +94,9 @@ impl Disk {
         ensures start { self.new.start ≡ self.old.start }
         ensures table { self.new.table ≡ self.old.table }
         ensures calls { MayAdd (record { file = file; deed = deed }) self.old.calls.items self.new.calls.items }
+        ensures noted { length self.old.calls.items < vec_capacity self.old.calls
+            → Adds (record { file = file; deed = deed }) self.old.calls.items self.new.calls.items }
+        ensures grows { vec_capacity self.old.calls ≤ vec_capacity self.new.calls }
     {
         if has_room(&self.calls) {
             self.calls.push_reserved(Call { file, deed });
@@ -107,6 +112,7 @@ impl Disk {
             self.old.calls.items self.new.calls.items) }
         ensures table_same { OnErr result (self.new.table ≡ self.old.table) }
         ensures calls_same { OnErr result (self.new.calls.items ≡ self.old.calls.items) }
+        ensures grows { vec_capacity self.old.calls ≤ vec_capacity self.new.calls }
         ensures room { OnOk result (HasRoom self.new.table (length self.new.calls.items)
             (vec_capacity self.new.calls)) }
     {
@@ -129,6 +135,7 @@ impl Disk {
             self.old.calls.items self.new.calls.items) }
         ensures table_same { OnErr result (self.new.table ≡ self.old.table) }
         ensures calls_same { OnErr result (self.new.calls.items ≡ self.old.calls.items) }
+        ensures grows { vec_capacity self.old.calls ≤ vec_capacity self.new.calls }
         ensures room { OnOk result (HasRoom self.new.table (length self.new.calls.items)
             (vec_capacity self.new.calls)) }
     {
@@ -153,6 +160,7 @@ impl Disk {
             (self.new.table ≡ self.old.table) }
         ensures calls { MatchBool result (Adds (record { file = file; deed = WriteAt at bytes.now })
             self.old.calls.items self.new.calls.items) (self.new.calls.items ≡ self.old.calls.items) }
+        ensures grows { vec_capacity self.old.calls ≤ vec_capacity self.new.calls }
     {
         if !has_room(&self.calls) {
             return false;
@@ -170,6 +178,30 @@ impl Disk {
         true
     }
 
+    /// Writes bytes over those of a file, as `write_at` does, and records that they may be torn where it does not.
+    pub fn write_or_tear(&mut self, alloc: Global, file: u64, at: u64, bytes: &[u8]) -> bool
+        requires exists { IsSome (get self.old.table file) }
+        requires within { at + length bytes.now ≤ size_of self.old.table file }
+        ensures start { self.new.start ≡ self.old.start }
+        ensures table { MatchBool result (self.new.table
+            ≡ insert self.old.table file (overwritten (bytes_of self.old.table file) at bytes.now))
+            (self.new.table ≡ self.old.table) }
+        ensures calls { MatchBool result (Adds (record { file = file; deed = WriteAt at bytes.now })
+            self.old.calls.items self.new.calls.items)
+            (MayAdd (record { file = file; deed = Tear at (length bytes.now) })
+            self.old.calls.items self.new.calls.items) }
+        ensures noted { MatchBool result ⊤ (length self.old.calls.items < vec_capacity self.old.calls
+            → Adds (record { file = file; deed = Tear at (length bytes.now) })
+            self.old.calls.items self.new.calls.items) }
+        ensures grows { vec_capacity self.old.calls ≤ vec_capacity self.new.calls }
+    {
+        if self.write_at(alloc, file, at, bytes) {
+            return true;
+        }
+        self.fail(file, Deed::Tear(at, bytes.len() as u64));
+        false
+    }
+
     /// Cuts a file, where the call finds room.
     pub fn cut(&mut self, file: u64, kept: u64) -> bool
         requires { IsSome (get self.old.table file) }
@@ -179,6 +211,7 @@ impl Disk {
             (self.new.table ≡ self.old.table) }
         ensures calls { MatchBool result (Adds (record { file = file; deed = Cut kept })
             self.old.calls.items self.new.calls.items) (self.new.calls.items ≡ self.old.calls.items) }
+        ensures grows { vec_capacity self.old.calls ≤ vec_capacity self.new.calls }
         ensures refused_only_without_room { length self.old.calls.items < vec_capacity self.old.calls
             → IsTrue result }
     {
@@ -199,6 +232,7 @@ impl Disk {
         ensures table { self.new.table ≡ self.old.table }
         ensures calls { MatchBool result (Adds (record { file = file; deed = Sync })
             self.old.calls.items self.new.calls.items) (self.new.calls.items ≡ self.old.calls.items) }
+        ensures grows { vec_capacity self.old.calls ≤ vec_capacity self.new.calls }
         ensures refused_only_without_room { length self.old.calls.items < vec_capacity self.old.calls
             → IsTrue result }
     {
@@ -219,6 +253,7 @@ impl Disk {
             (self.new.table ≡ self.old.table) }
         ensures calls { MatchBool result (Adds (record { file = file; deed = Remove })
             self.old.calls.items self.new.calls.items) (self.new.calls.items ≡ self.old.calls.items) }
+        ensures grows { vec_capacity self.old.calls ≤ vec_capacity self.new.calls }
         ensures refused_only_without_room { length self.old.calls.items < vec_capacity self.old.calls
             → IsTrue result }
     {

@@ -3,10 +3,11 @@
 //! Tests and the program's own memory runs use it. It tells what it holds. Its moment is the number of calls recorded,
 //! and its images are read off that record (`specs/Record.antt`): the record is data that a test can look at, through
 //! `crash`. It fails where its plan says so, where a call finds no room in the record, and where a `write_at` would
-//! change bytes that a lease has: such a call changes nothing and is not recorded.
-ghost use Rattle.std.specs.Prelude.{◌≡◌, ◌≤◌, ◌∷◌, ℕ, [], true, IfOk, IsNone, is_ok, if◌then◌else◌, length};
+//! change bytes that a lease has: such a call changes nothing. A writing call that failed is recorded where there is
+//! room, as a tear of the bytes that it was to write, or as nothing.
+ghost use Rattle.std.specs.Prelude.{◌≡◌, ◌≤◌, ◌+◌, ◌-◌, ◌∷◌, ℕ, [], true, IfOk, IsNone, is_ok, if◌then◌else◌, length, vec_capacity};
 ghost use Rattle.std.specs.Arc.{arc_value};
-ghost use Rattle.std.specs.FinMap.{get};
+ghost use Rattle.std.specs.FinMap.{get, len};
 ghost use Rattle.xod_volume.specs.Files.{Files, no_files};
 ghost use Rattle.xod_volume.specs.Leases.{holds_file, without};
 ghost use Rattle.xod_volume.specs.Record.{image_at, crashed_at};
@@ -42,6 +43,8 @@ impl MemoryVolume {
         ensures moment { IfOk result (λ volume. ⟦<MemoryVolume as Volume>⟧.moment volume ≡ 0) }
         ensures leases { IfOk result (λ volume. ⟦<MemoryVolume as Volume>⟧.leases volume ≡ []) }
         ensures faults { IfOk result (λ volume. ⟦<MemoryVolume as Volume>⟧.faults volume ≡ 0) }
+        ensures room { IfOk result (λ volume.
+            len (⟦<MemoryVolume as Volume>⟧.files volume) + 1024 ≤ ⟦<MemoryVolume as Volume>⟧.room volume) }
         ensures planned { IfOk result (λ volume. (arc_value volume.plan).failing.items ≡ []) }
     {
         MemoryVolume::failing(alloc, &[])
@@ -56,6 +59,8 @@ impl MemoryVolume {
         ensures moment { IfOk result (λ volume. ⟦<MemoryVolume as Volume>⟧.moment volume ≡ 0) }
         ensures leases { IfOk result (λ volume. ⟦<MemoryVolume as Volume>⟧.leases volume ≡ []) }
         ensures faults { IfOk result (λ volume. ⟦<MemoryVolume as Volume>⟧.faults volume ≡ 0) }
+        ensures room { IfOk result (λ volume.
+            len (⟦<MemoryVolume as Volume>⟧.files volume) + 1024 ≤ ⟦<MemoryVolume as Volume>⟧.room volume) }
         ensures planned { IfOk result (λ volume. (arc_value volume.plan).failing.items ≡ calls.now) }
     {
         let plan = Plan::new(Vec::from_slice(alloc, calls)?);
@@ -70,6 +75,8 @@ impl MemoryVolume {
         ensures calls { IfOk result (λ volume. volume.disk.calls.items ≡ []) }
         ensures leases { IfOk result (λ volume. volume.lent.items ≡ []) }
         ensures faults { IfOk result (λ volume. volume.faults ≡ 0) }
+        ensures room { IfOk result (λ volume.
+            len (⟦<MemoryVolume as Volume>⟧.files volume) + 1024 ≤ ⟦<MemoryVolume as Volume>⟧.room volume) }
         ensures planned { IfOk result (λ volume. (arc_value volume.plan).failing.items ≡ plan.failing.items) }
     {
         let plan = Arc::new(alloc, plan)?;
@@ -121,6 +128,8 @@ impl MemoryVolume {
         ensures moment { IfOk result (λ volume. ⟦<MemoryVolume as Volume>⟧.moment volume ≡ 0) }
         ensures leases { IfOk result (λ volume. ⟦<MemoryVolume as Volume>⟧.leases volume ≡ []) }
         ensures faults { IfOk result (λ volume. ⟦<MemoryVolume as Volume>⟧.faults volume ≡ 0) }
+        ensures room { IfOk result (λ volume.
+            len (⟦<MemoryVolume as Volume>⟧.files volume) + 1024 ≤ ⟦<MemoryVolume as Volume>⟧.room volume) }
         ensures planned { IfOk result (λ volume. (arc_value volume.plan).failing.items ≡ []) }
     {
         let calls = &self.disk.calls[..moment as usize];
@@ -141,6 +150,8 @@ impl Volume for MemoryVolume {
     ghost moment = { λ volume. length volume.disk.calls.items };
 
     ghost may_leave = { λ volume. image_at volume.disk.start volume.disk.calls.items };
+
+    ghost room = { λ volume. vec_capacity volume.disk.calls - length volume.disk.calls.items };
 
     ghost leases = { λ volume. volume.lent.items };
 
@@ -201,7 +212,7 @@ impl Volume for MemoryVolume {
             self.disk.fail(file, Deed::Tear(at, bytes.len() as u64));
             return Err(Failed);
         }
-        if self.disk.write_at(self.alloc, file, at, bytes) {
+        if self.disk.write_or_tear(self.alloc, file, at, bytes) {
             Ok(())
         } else {
             self.faults = self.faults.saturating_add(1);
@@ -226,7 +237,7 @@ impl Volume for MemoryVolume {
     fn sync(&mut self, file: u64) -> Result<(), Failed> {
         if self.plan.fails() {
             self.faults = self.faults.saturating_add(1);
-            self.disk.fail(file, Deed::Nothing);
+            self.disk.fail(file, Deed::Nothing); // a sync that failed makes nothing durable
             return Err(Failed);
         }
         if self.disk.sync(file) {

@@ -3,14 +3,14 @@
 //! `xod_log` and the crates above work over any `Volume`, and read through any `Lease`. What a volume holds is told by
 //! those in memory and not by one over real files; leases and counts of faults are told by all. What a crash may leave
 //! is stated in `specs/Crash.antt`, call by call; docs/DEFINITIONS.md has it in plain words.
-ghost use Rattle.std.specs.Prelude.{◌≡◌, ◌≤◌, ◌+◌, ◌++◌, ◌∷◌, [], false, Bool, ℕ, List, length, take, IfOk, OnOk, OnErr, IsErr, IsErrOf, IsSome, IsNone, IsTrue};
+ghost use Rattle.std.specs.Prelude.{◌≡◌, ◌≤◌, ◌<◌, ◌+◌, ◌++◌, ◌∷◌, [], false, Bool, ℕ, List, length, take, IfOk, OnOk, OnErr, IsOk, IsErr, IsErrOf, IsSome, IsNone, IsTrue};
 ghost use Rattle.std.specs.List.{All};
-ghost use Rattle.std.specs.FinMap.{get, insert, remove, keys};
+ghost use Rattle.std.specs.FinMap.{get, insert, remove, keys, len};
 ghost use base.Fml.{GName};
 ghost use Rattle.xod_base.specs.Causes.{Rose};
 ghost use Rattle.xod_volume.specs.declared.volume.VolumeError.{VolumeError};
 ghost use Rattle.xod_volume.specs.Files.{Files, bytes_of, size_of, overwritten};
-ghost use Rattle.xod_volume.specs.Crash.{OnFile, OnBytes, Torn, Shortened, Appears, Vanishes, Passes, Rests, IsSame};
+ghost use Rattle.xod_volume.specs.Crash.{OnFile, OnBytes, Torn, Shortened, Appears, Vanishes, Passes, Rests, IsSame, Noted};
 ghost use Rattle.xod_volume.specs.Leases.{holds_file, without, lent_of, Filled, Added, Stays, Unmoved};
 
 use xod_base::{Failed, Memory};
@@ -53,13 +53,16 @@ pub trait Lease {
     ghost refs: { Self → List GName };
 
     /// Fills `out` with bytes of a file from a place on, as far as the lent bytes go, and gives how many those are: 0
-    /// for a file that was not lent.
+    /// for a file that was not lent, which never fails.
     fn read(&mut self, file: u64, at: u64, out: &mut [u8]) -> Result<usize, Failed>
         ensures filled { IsTrue (tells self.old) → IfOk result (λ n.
             Filled (bytes_of (lent self.old) file) at out.old out.new n) }
         ensures counted { Rose (reads self.old) (reads self.new) }
+        ensures counted_once { reads self.new ≤ reads self.old + 1 }
         ensures failed { IsErr result → Rose (faults self.old) (faults self.new) }
         ensures unfailed { OnOk result (faults self.new ≡ faults self.old) }
+        ensures not_lent_never_fails { IsTrue (tells self.old)
+            → IsNone (get (lent self.old) file) → IsOk result }
         ensures never_falls { faults self.old ≤ faults self.new }
         ensures tells_same { tells self.new ≡ tells self.old }
         ensures list_same { list self.new ≡ list self.old }
@@ -84,6 +87,9 @@ pub trait Volume {
     /// What a crash at a moment may leave.
     ghost may_leave: { Self → ℕ → Files → Type 0 };
 
+    /// How many further calls find room to be noted: only of a failed call that found none nothing may be left.
+    ghost room: { Self → ℕ };
+
     /// The lists of the leases that are out, the newest first, told or not.
     ghost leases: { Self → List (List ℕ) };
 
@@ -104,6 +110,9 @@ pub trait Volume {
         ensures stays { Stays (tells self.old) (tells self.new) (leases self.old) (leases self.new)
             (refs self.old) (refs self.new) (faults self.old) (faults self.new) }
         ensures same { IsTrue (tells self.old) → files self.new ≡ files self.old }
+        ensures makes_room { IsTrue (tells self.old)
+            → OnOk result (len (files self.new) + 1024 ≤ room self.new) }
+        ensures keeps_room { room self.old ≤ room self.new }
 
         // What a crash may leave.
         ensures rests { IsTrue (tells self.old) → Rests (moment self.old) (moment self.new)
@@ -118,6 +127,7 @@ pub trait Volume {
         ensures stays { Stays (tells self.old) (tells self.new) (leases self.old) (leases self.new)
             (refs self.old) (refs self.new) (faults self.old) (faults self.new) }
         ensures same { IsTrue (tells self.old) → files self.new ≡ files self.old }
+        ensures keeps_room { room self.old ≤ room self.new }
 
         // What a crash may leave.
         ensures rests { IsTrue (tells self.old) → Rests (moment self.old) (moment self.new)
@@ -133,6 +143,7 @@ pub trait Volume {
         ensures stays { Stays (tells self.old) (tells self.new) (leases self.old) (leases self.new)
             (refs self.old) (refs self.new) (faults self.old) (faults self.new) }
         ensures same { IsTrue (tells self.old) → files self.new ≡ files self.old }
+        ensures keeps_room { room self.old ≤ room self.new }
 
         // What a crash may leave.
         ensures rests { IsTrue (tells self.old) → Rests (moment self.old) (moment self.new)
@@ -150,6 +161,8 @@ pub trait Volume {
             (leases self.old) (leases self.new) (faults self.old) (faults self.new) }
         ensures stays { Stays (tells self.old) (tells self.new) (leases self.old) (leases self.new)
             (refs self.old) (refs self.new) (faults self.old) (faults self.new) }
+        ensures makes_room { IsTrue (tells self.old)
+            → OnOk result (len (files self.new) + 1024 ≤ room self.new) }
 
         // What a crash may leave.
         ensures crash { IsTrue (tells self.old) → Passes (moment self.old) (moment self.new)
@@ -157,6 +170,8 @@ pub trait Volume {
         ensures not_yet_safe { IsTrue (tells self.old) → (left : Files)
             → may_leave self.old (moment self.old) left → IsNone (get left file)
             → may_leave self.new (moment self.new) left }
+        ensures noted { IsTrue (tells self.old) → Noted (IsErrOf result VolumeError.Failed)
+            (room self.old) (room self.new) (moment self.old) (moment self.new) }
         ensures may_be_kept { IsTrue (tells self.old)
             → may_leave self.new (moment self.new) (files self.new) };
 
@@ -175,6 +190,8 @@ pub trait Volume {
             (leases self.old) (leases self.new) (faults self.old) (faults self.new) }
         ensures stays { Stays (tells self.old) (tells self.new) (leases self.old) (leases self.new)
             (refs self.old) (refs self.new) (faults self.old) (faults self.new) }
+        ensures makes_room { IsTrue (tells self.old)
+            → OnOk result (len (files self.new) + 1024 ≤ room self.new) }
 
         // What a crash may leave.
         ensures crash { IsTrue (tells self.old) → Passes (moment self.old) (moment self.new)
@@ -182,6 +199,12 @@ pub trait Volume {
             (OnFile file (OnBytes (Torn (size_of (files self.old) file) (length bytes.now)))) }
         ensures not_yet_safe { IsTrue (tells self.old) → (left : Files)
             → may_leave self.old (moment self.old) left → may_leave self.new (moment self.new) left }
+        ensures noted { IsTrue (tells self.old) → Noted (IsErrOf result VolumeError.Failed)
+            (room self.old) (room self.new) (moment self.old) (moment self.new) }
+        ensures torn_may_be_left { IsTrue (tells self.old) → IsErrOf result VolumeError.Failed → 0 < room self.old
+            → (was left : Files) → may_leave self.old (moment self.old) was
+            → OnFile file (OnBytes (Torn (size_of (files self.old) file) (length bytes.now))) was left
+            → may_leave self.new (moment self.new) left }
         ensures may_be_kept { IsTrue (tells self.old)
             → may_leave self.new (moment self.new) (files self.new) };
 
@@ -203,6 +226,12 @@ pub trait Volume {
             (may_leave self.old) (may_leave self.new) (OnFile file (OnBytes (Torn at (length bytes.now)))) }
         ensures not_yet_safe { IsTrue (tells self.old) → (left : Files)
             → may_leave self.old (moment self.old) left → may_leave self.new (moment self.new) left }
+        ensures noted { IsTrue (tells self.old) → Noted (IsErr result)
+            (room self.old) (room self.new) (moment self.old) (moment self.new) }
+        ensures torn_may_be_left { IsTrue (tells self.old) → IsErr result → 0 < room self.old
+            → (was left : Files) → may_leave self.old (moment self.old) was
+            → OnFile file (OnBytes (Torn at (length bytes.now))) was left
+            → may_leave self.new (moment self.new) left }
         ensures may_be_kept { IsTrue (tells self.old)
             → may_leave self.new (moment self.new) (files self.new) };
 
@@ -223,6 +252,8 @@ pub trait Volume {
             (may_leave self.old) (may_leave self.new) (OnFile file (OnBytes (Shortened length))) }
         ensures not_yet_safe { IsTrue (tells self.old) → (left : Files)
             → may_leave self.old (moment self.old) left → may_leave self.new (moment self.new) left }
+        ensures noted { IsTrue (tells self.old) → Noted (IsErr result)
+            (room self.old) (room self.new) (moment self.old) (moment self.new) }
         ensures may_be_kept { IsTrue (tells self.old)
             → may_leave self.new (moment self.new) (files self.new) };
 
@@ -240,6 +271,10 @@ pub trait Volume {
             → may_leave self.new (moment self.new) left → get left file ≡ get (files self.old) file) }
         ensures crash { IsTrue (tells self.old) → Passes (moment self.old) (moment self.new)
             (may_leave self.old) (may_leave self.new) IsSame }
+        ensures noted { IsTrue (tells self.old) → Noted (IsErr result)
+            (room self.old) (room self.new) (moment self.old) (moment self.new) }
+        ensures not_yet_safe { IsTrue (tells self.old) → OnErr result ((left : Files)
+            → may_leave self.old (moment self.old) left → may_leave self.new (moment self.new) left) }
         ensures may_be_kept { IsTrue (tells self.old)
             → may_leave self.new (moment self.new) (files self.new) };
 
@@ -258,6 +293,10 @@ pub trait Volume {
         // What a crash may leave.
         ensures crash { IsTrue (tells self.old) → Passes (moment self.old) (moment self.new)
             (may_leave self.old) (may_leave self.new) (OnFile file Vanishes) }
+        ensures noted { IsTrue (tells self.old) → Noted (IsErr result)
+            (room self.old) (room self.new) (moment self.old) (moment self.new) }
+        ensures not_yet_safe { IsTrue (tells self.old) → OnErr result ((left : Files)
+            → may_leave self.old (moment self.old) left → may_leave self.new (moment self.new) left) }
         ensures may_be_kept { IsTrue (tells self.old)
             → may_leave self.new (moment self.new) (files self.new) };
 
@@ -279,6 +318,9 @@ pub trait Volume {
         ensures tells_same { tells self.new ≡ tells self.old }
         ensures refs_same { refs self.new ≡ refs self.old }
         ensures same { IsTrue (tells self.old) → files self.new ≡ files self.old }
+        ensures makes_room { IsTrue (tells self.old)
+            → OnOk result (len (files self.new) + 1024 ≤ room self.new) }
+        ensures keeps_room { room self.old ≤ room self.new }
 
         // What a crash may leave.
         ensures rests { IsTrue (tells self.old) → Rests (moment self.old) (moment self.new)
@@ -296,6 +338,7 @@ pub trait Volume {
         ensures tells_same { tells self.new ≡ tells self.old }
         ensures refs_same { refs self.new ≡ refs self.old }
         ensures same { IsTrue (tells self.old) → files self.new ≡ files self.old }
+        ensures keeps_room { room self.old ≤ room self.new }
 
         // What a crash may leave.
         ensures rests { IsTrue (tells self.old) → Rests (moment self.old) (moment self.new)

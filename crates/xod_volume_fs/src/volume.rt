@@ -90,6 +90,8 @@ impl<R: System> Volume for FolderVolume<R> {
 
     ghost may_leave = { λ _ _ _. ⊤ };
 
+    ghost room = { λ _. 0 };
+
     ghost leases = { λ volume. volume.lent.items };
 
     ghost faults = { λ volume. volume.faults };

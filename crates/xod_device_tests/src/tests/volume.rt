@@ -341,12 +341,12 @@ fn a_write_into_bytes_that_a_lease_has_fails(rt: HostRuntime) -> Result<(), Fail
     let lent = lease.read(1, 0, &mut out);
     volume.take_back(lease);
     assert!(rt; grown && behind_lent && !over_lent);
-    assert_eq!(rt; after, (4, 1));
+    assert_eq!(rt; after, (5, 1));
     assert_eq!(rt; unchanged, Some((*b"abcdef\0\0", 6)));
     assert_eq!(rt; (out, lent), (*b"ab\0\0", Ok(2)));
     assert_eq!(rt; eight_from(&mut volume, 1, 0), Some((*b"abCDEf\0\0", 6)));
     assert!(rt; take(&mut volume, &Step::WriteAt(1, 1, b"VWXYZ")));
-    assert_eq!(rt; (volume.moment(), volume.faults()), (6, 1));
+    assert_eq!(rt; (volume.moment(), volume.faults()), (7, 1));
     assert_eq!(rt; eight_from(&mut volume, 1, 0), Some((*b"aVWXYZ\0\0", 6)));
     Ok(())
 }

@@ -1,13 +1,13 @@
-use Rattle.std.proofs.Common.{◌++◌, ℕ, length, reverse, refl, sym, ◌∙◌, ap, subst}
+use Rattle.std.proofs.Common.{vec_capacity, ◌++◌, ℕ, length, reverse, refl, sym, ◌∙◌, ap, subst, ◌<◌, arith}
 use Rattle.std.specs.FinMap.{get}
 use Rattle.xod_volume.specs.Files.{Files, Content, bytes_in, size_of}
 use Rattle.xod_volume.specs.Crash.{OnFile, OnBytes, Torn}
 use Rattle.xod_volume.specs.declared.history.Deed.TheVariants.{Append, Tear}
-use Rattle.xod_volume.specs.Record.{Leaves, By, on_file, MayAdd}
+use Rattle.xod_volume.specs.Record.{Leaves, By, on_file, MayAdd, Adds}
 use Rattle.xod_volume.proofs.OneFile.{OnBytes-torn, OnBytes-append}
 use Rattle.xod_volume.proofs.AllFiles.{OnFile-same, OnFile-changed, reads_now}
 use Rattle.xod_volume.proofs.Agrees.{with_changed}
-use Rattle.xod_volume.proofs.Steps.{kept, idle_passes, step_passes, step_left, torn_passes, fail_left}
+use Rattle.xod_volume.proofs.Steps.{kept, idle_passes, step_passes, step_left, torn_passes, fail_left, torn_left}
 use Rattle.xod_volume.proofs.memory.MemoryVolumeVolume.append.Goals as goal
 
 pub returns-then-fails-clause-crash : goal.returns-then-fails-clause-crash
@@ -47,3 +47,7 @@ returns-clause-torn c told =
     let F : Files = c.args.self.now.disk.table in
     subst (OnFile c.args.file (OnBytes (Torn (size_of c.args.self.now.disk.table c.args.file) (length c.args.bytes.now))) F) (sym (c.in_ok-append.ensures.table ∙ with_changed F c.args.file (λ was. was ++ c.args.bytes.now) (get F c.args.file) (c.requires.exists told)))
     (OnFile-changed c.args.file (OnBytes (Torn (size_of c.args.self.now.disk.table c.args.file) (length c.args.bytes.now))) F _ (OnBytes-append (get F c.args.file) c.args.bytes.now))
+
+pub returns-then-fails-clause-torn_may_be_left : goal.returns-then-fails-clause-torn_may_be_left
+returns-then-fails-clause-torn_may_be_left c told bad room was left =
+    torn_left c.args.self.now.disk.start c.fail.new.self.start c.args.self.now.disk.calls.items c.fail.new.self.calls.items c.fail.ensures.start (record { file = c.args.file; deed = Tear (size_of c.args.self.now.disk.table c.args.file) (length c.args.bytes.now) }) ((subst (λ (k : ℕ). length c.args.self.now.disk.calls.items < vec_capacity c.args.self.now.disk.calls → Adds (record { file = c.args.file; deed = Tear k (length c.args.bytes.now) }) c.args.self.now.disk.calls.items c.fail.new.self.calls.items) c.size-end.ensures c.fail.ensures.noted) (omega (arith, room))) (size_of c.args.self.now.disk.table c.args.file) (length c.args.bytes.now) refl was left

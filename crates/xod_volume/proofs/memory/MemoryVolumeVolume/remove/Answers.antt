@@ -5,7 +5,7 @@ use Rattle.xod_volume.specs.declared.history.Deed.TheVariants.{Remove, Nothing}
 use Rattle.xod_volume.specs.Record.{reads, synced, on_file}
 use Rattle.xod_volume.proofs.OneFile.{reads_left, synced_left}
 use Rattle.xod_volume.proofs.AllFiles.{OnFile-same}
-use Rattle.xod_volume.proofs.Steps.{kept, idle_passes, step_passes, fail_passes}
+use Rattle.xod_volume.proofs.Steps.{kept, idle_passes, step_passes, fail_passes, fail_left}
 use Rattle.xod_volume.proofs.memory.MemoryVolumeVolume.remove.Goals as goal
 
 pub returns-then-fails-clause-crash : goal.returns-then-fails-clause-crash
@@ -31,3 +31,7 @@ returns-else-remove-clause-crash c told =
 pub returns-else-remove-clause-may_be_kept : goal.returns-else-remove-clause-may_be_kept
 returns-else-remove-clause-may_be_kept c told =
     kept _ _ _ c.remove.new.self.agrees
+
+pub returns-then-fails-clause-not_yet_safe : goal.returns-then-fails-clause-not_yet_safe
+returns-then-fails-clause-not_yet_safe c told =
+    fail_left c.args.self.now.disk.start c.fail.new.self.start c.args.self.now.disk.calls.items c.fail.new.self.calls.items c.fail.ensures.start (record { file = c.args.file; deed = Nothing }) c.fail.ensures.calls (λ o i. i)

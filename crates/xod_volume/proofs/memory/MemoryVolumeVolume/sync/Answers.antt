@@ -1,7 +1,7 @@
 use Rattle.std.proofs.Common.{refl}
 use Rattle.xod_volume.specs.Crash.{IsSame}
 use Rattle.xod_volume.specs.declared.history.Deed.TheVariants.{Sync, Nothing}
-use Rattle.xod_volume.proofs.Steps.{kept, idle_passes, sync_passes, sync_lasts, fail_passes}
+use Rattle.xod_volume.proofs.Steps.{kept, idle_passes, sync_passes, sync_lasts, fail_passes, fail_left}
 use Rattle.xod_volume.proofs.memory.MemoryVolumeVolume.sync.Goals as goal
 
 pub returns-then-fails-clause-crash : goal.returns-then-fails-clause-crash
@@ -31,3 +31,7 @@ returns-else-sync-clause-crash c told =
 pub returns-else-sync-clause-may_be_kept : goal.returns-else-sync-clause-may_be_kept
 returns-else-sync-clause-may_be_kept c told =
     kept _ _ _ c.sync.new.self.agrees
+
+pub returns-then-fails-clause-not_yet_safe : goal.returns-then-fails-clause-not_yet_safe
+returns-then-fails-clause-not_yet_safe c told =
+    fail_left c.args.self.now.disk.start c.fail.new.self.start c.args.self.now.disk.calls.items c.fail.new.self.calls.items c.fail.ensures.start (record { file = c.args.file; deed = Nothing }) c.fail.ensures.calls (λ o i. i)
