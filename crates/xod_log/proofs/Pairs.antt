@@ -1,5 +1,5 @@
 -- A pair is made: what reads give, and what a crash may leave.
-use Rattle.std.proofs.Common.{◌≡◌, ◌==◌, ◌||◌, ◌<◌, ◌≤◌, ◌⊎◌, ℕ, Bool, List, [], ◌∷◌, length, Some, None, true, IsSome, is_some, refl, sym, ◌∙◌, ap, subst, inl, inr, arith}
+use Rattle.std.proofs.Common.{◌≡◌, ◌==◌, ◌&&◌, ◌||◌, ◌<◌, ◌≤◌, ◌⊎◌, ℕ, Bool, List, [], ◌∷◌, length, Some, None, true, false, IsSome, is_some, refl, sym, ◌∙◌, ap, subst, inl, inr, arith}
 use mathlib.Core.Logic.{◌≢◌}
 use Rattle.std.specs.List.{list_any}
 use Rattle.std.specs.Ordering.{nat_cmp, eq_by_cmp}
@@ -8,7 +8,7 @@ use Rattle.std.specs.FinMap.{get, keys, contains_key-keys, get-empty}
 use Rattle.xod_volume.specs.Files.{Files, Content, no_files, bytes_in}
 use Rattle.xod_volume.specs.Crash.{OnFile, OnBytes, Torn, Appears, Passes, Rests, IsSame}
 use Rattle.xod_log.specs.Ends.{gate_at, IsUsed, body_of, ends_of}
-use Rattle.xod_log.specs.Standing.{IsDurablePair, Stands, empty_log, last_file}
+use Rattle.xod_log.specs.Standing.{IsDurablePair, Stands, has_pair, empty_log, last_file}
 use Rattle.xod_log.specs.Calls.{IsEmptyPair, IsSamePair, MakesPair, no_mark}
 use Rattle.xod_log.specs.Runs.{Run}
 use Rattle.xod_log.proofs.Runs.{goes, sure}
@@ -39,6 +39,36 @@ nothing_used files none file within used =
     let absent : get files (body_of file) ≡ None = ap (λ (f : Files). get f (body_of file)) none ∙ get-empty nat_cmp (body_of file) in
     let there : is_some {T = List ℕ} None ≡ true = subst (λ (c : Content). IsSome c) absent used.has_body in
     cc
+
+-- ---- whether a log file is there
+
+-- it goes with the two files
+pub has_pair_over : (file : ℕ) (was now : Files) → get now (body_of file) ≡ get was (body_of file) → get now (ends_of file) ≡ get was (ends_of file)
+    → has_pair now file ≡ has_pair was file
+has_pair_over file was now body ends =
+    ap (λ (c : Content). is_some c && is_some (get now (ends_of file))) body
+    ∙ ap (λ (c : Content). is_some (get was (body_of file)) && is_some c) ends
+
+pub has_both : (file : ℕ) (now : Files) (body ends : List ℕ) → get now (body_of file) ≡ Some body → get now (ends_of file) ≡ Some ends → true ≡ has_pair now file
+has_both file now body ends has_body has_ends =
+    sym (ap (λ (c : Content). is_some c && is_some (get now (ends_of file))) has_body ∙ ap (λ (c : Content). is_some c) has_ends)
+
+body_or_both : (body ends : Bool) → ((body && ends) || body) ≡ (body && true)
+body_or_both true true = refl
+body_or_both true false = refl
+body_or_both false ends = refl
+
+-- once the ends are made it is there exactly where the body is
+pub found_pair : (file : ℕ) (was now : Files) (flag here found : Bool) → flag ≡ has_pair was file → here ≡ is_some (get was (body_of file))
+    → get now (body_of file) ≡ get was (body_of file) → get now (ends_of file) ≡ Some [] → found ≡ (flag || here) → found ≡ has_pair now file
+found_pair file was now flag here found known body same ends is =
+    let b = is_some (get was (body_of file)) in
+    is
+    ∙ ap (λ (f : Bool). f || here) known
+    ∙ ap (λ (h : Bool). has_pair was file || h) body
+    ∙ body_or_both b (is_some (get was (ends_of file)))
+    ∙ ap (λ (c : Content). is_some c && true) (sym same)
+    ∙ ap (λ (c : Content). is_some (get now (body_of file)) && is_some c) (sym ends)
 
 -- a pair without blocks in each image is durable
 pub empty_durable : (file : ℕ) (files : Files) (images : Files → Type 0) → IsEmptyPair file files → ((left : Files) → images left → IsEmptyPair file left) → IsDurablePair file files images

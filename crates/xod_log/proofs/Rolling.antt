@@ -7,11 +7,12 @@ use Rattle.xod_volume.specs.Crash.{OnFile, OnBytes, Torn, Passes}
 use Rattle.xod_volume.proofs.CallerLemmas.{get_same, get_other}
 use Rattle.xod_log.specs.declared.log.Log.{Log}
 use Rattle.xod_log.specs.Ends.{gate_at, numbers_at, IsOpen, IsUsed, body_of, ends_of}
-use Rattle.xod_log.specs.Standing.{AtRest, LeftStanding, IsDurablePair, LastSays, Stands, body_file, ends_file, sealed_log, rolled_log, appended_log, is_due}
-use Rattle.xod_log.specs.Calls.{IsElsewhere, IsRolled, IsSamePair, MakesPair, IsClosed, IsMarked, Seals, Rolls, Appends, BodyFirst, KeepsClaims, Outlives}
+use Rattle.xod_log.specs.Standing.{AtRest, LeftStanding, IsDurablePair, LastSays, Stands, body_file, ends_file, sealed_log, rolled_log, appended_log, is_due, has_pair}
+use Rattle.xod_log.specs.Calls.{IsElsewhere, IsEmptyPair, IsRolled, IsSamePair, MakesPair, IsClosed, IsMarked, Seals, Rolls, Appends, BodyFirst, KeepsClaims, Outlives}
 use Rattle.xod_log.proofs.Runs.{weakened, joined}
 use Rattle.xod_log.proofs.Claims.{same_bytes, pair_claims}
 use Rattle.xod_log.proofs.Marking.{has_bytes}
+use Rattle.xod_log.proofs.Pairs.{has_pair_over}
 use Rattle.xod_log.proofs.SealRuns.{stood_mark}
 
 -- ---- files of the pairs
@@ -46,6 +47,15 @@ pub block_apart : (log : Log) (step : Content → Content → Type 0) (mid left 
 block_apart log step mid left on =
     let apart = next_apart log.file in
     record { body = on.others (body_file log) apart.0; ends = on.others (ends_file log) apart.2 }
+
+-- a seal leaves the next log file there or not
+pub sealing_has_next : (log : Log) (was now : Files) → ((other : ℕ) → other ≢ ends_file log → get now other ≡ get was other)
+    → has_pair now (log.file + 1) ≡ has_pair was (log.file + 1)
+sealing_has_next log was now others =
+    has_pair_over (log.file + 1) was now (others (body_of (log.file + 1)) (λ e. omega (arith, e))) (others (ends_of (log.file + 1)) (λ e. omega (arith, e)))
+
+pub rolled_empty : (log : Log) (before after : Files) → IsRolled log [] before after → IsEmptyPair (log.file + 1) after
+rolled_empty log before after r = record { body = r.next_body; ends = r.next_ends }
 
 -- ---- what a roll may leave
 
@@ -280,6 +290,27 @@ module _ (log now : Log) (is : now ≡ sealed_log log) (t1 t2 : ℕ) (i1 i2 : �
       (others (ends_file now) (λ e. omega (arith, file, e)))
       (λ mid left on. (on.others (body_file now) (λ e. omega (arith, file, e)), on.others (ends_file now) (λ e. omega (arith, file, e))))
 
+-- ---- an append to a later file
+
+-- it leaves the earlier ones alone, whether it rolls or not
+appends_later : (next : Log) (count : ℕ) (body ends : List ℕ) (mid left : Files) (other : ℕ) → other < body_file next
+    → (due : Bool) → MatchBool due (Rolls next body ends mid left) (OnFile (body_file next) (OnBytes (Torn next.end count)) mid left)
+    → get left other ≡ get mid other
+appends_later next count body ends mid left other lt true r = r.others other (inl lt)
+appends_later next count body ends mid left other lt false on = on.others other (λ e. omega (arith, lt, e))
+
+pub append_stands : (log next : Log) (count : ℕ) (body ends : List ℕ) (t1 t2 : ℕ) (i1 i2 : ℕ → Files → Type 0) (before after : Files) → log.file < next.file
+    → ((other : ℕ) → IsElsewhere next other → get after other ≡ get before other)
+    → Passes t1 t2 i1 i2 (Appends next count body ends) → Stands log before (i1 t1) → Stands log after (i2 t2)
+append_stands log next count body ends t1 t2 i1 i2 before after lt others passes =
+    let first : body_file log < body_file next = omega (arith, lt) in
+    let second : ends_file log < body_file next = omega (arith, lt) in
+    stands_on log t1 t2 i1 i2 before after (Appends next count body ends) passes (others (body_file log) (inl first)) (others (ends_file log) (inl second))
+    (λ mid left step. (
+      appends_later next count body ends mid left (body_file log) first (is_due next) step,
+      appends_later next count body ends mid left (ends_file log) second (is_due next) step,
+    ))
+
 -- ---- a block behind a roll
 
 pub rolled_behind : (log : Log) (block : List ℕ) (before mid after : Files) → IsRolled log [] before mid
@@ -297,6 +328,31 @@ rolled_behind log block before mid after r is =
       next_body = here ∙ ap (λ (l : List ℕ). Some l) whole;
       next_ends = other (ends_of (log.file + 1)) (λ e. omega (arith, e)) ∙ r.next_ends;
     }
+
+-- ---- a roll, and then an append to the next file, as two calls
+
+module _ (log next : Log) (is : next ≡ rolled_log log) (due : is_due next ≡ false) (count : ℕ) (body ends : List ℕ) where
+  at_next : (mid left : Files) → Appends next count body ends mid left → OnFile (body_of (log.file + 1)) (OnBytes (Torn 0 count)) mid left
+  at_next mid left a = subst (λ (l : Log). OnFile (body_file l) (OnBytes (Torn l.end count)) mid left) is (appends_not_due next body ends count due mid left a)
+
+  -- what reads give
+  pub then_append_reads : (B E : List ℕ) (was mid left : Files) → IsEmptyPair (log.file + 1) mid → Rolls log B E was mid → Appends next count body ends mid left → Rolls log B E was left
+  then_append_reads B E was mid left made r a =
+      block_rolls log B E (OnBytes (Torn 0 count)) was mid left r (ap (λ (c : Content). length (bytes_in c)) made.ends) (at_next mid left a)
+
+  module _ (t0 t1 t2 : ℕ) (i0 i1 i2 : ℕ → Files → Type 0) (mid : Files) (next_stands : Stands next mid (i1 t1)) (appending : Passes t1 t2 i1 i2 (Appends next count body ends)) where
+    -- what a crash may leave
+    pub then_append : (B E : List ℕ) → Passes t0 t1 i0 i1 (Rolls log B E) → Passes t0 t2 i0 i2 (Rolls log B E)
+    then_append B E rolling =
+        block_rolled log B E t0 t1 t2 i0 i1 i2 mid (OnBytes (Torn 0 count)) (subst (λ (l : Log). Stands l mid (i1 t1)) is next_stands) rolling
+        (weakened t1 t2 i1 i2 (Appends next count body ends) (OnFile (body_of (log.file + 1)) (OnBytes (Torn 0 count))) appending (λ was left began. at_next was left))
+
+    -- what open marks claim
+    pub then_append_claims : (files : Files) → Stands log files (i0 t0) → Passes t0 t1 i0 i1 (Rolls log (bytes_of files (body_file log)) (bytes_of files (ends_file log)))
+        → KeepsClaims log files t0 t1 i0 i1 → KeepsClaims log files t0 t2 i0 i2
+    then_append_claims files stands rolling claims =
+        roll_claims log files t0 t2 i0 i2 stands (then_append (bytes_of files (body_file log)) (bytes_of files (ends_file log)) rolling)
+        (first_after log files t1 t2 i1 i2 (Appends next count body ends) appending (λ was left a. block_apart log (OnBytes (Torn 0 count)) was left (at_next was left a)) claims.body_first)
 
 -- ---- what a seal left outlives a crash
 

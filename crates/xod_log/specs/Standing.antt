@@ -1,5 +1,5 @@
 -- A log, and when it stands on a volume.
-use Rattle.std.specs.Prelude.{◌≡◌, ◌<◌, ℕ, ◌+◌, ◌*◌, Bool, true, false, List, length, take, Some, IsSome, IsTrue, nat_le, nat_eq, if◌then◌else◌}
+use Rattle.std.specs.Prelude.{◌≡◌, ◌<◌, ℕ, ◌+◌, ◌*◌, Bool, true, false, ◌&&◌, List, length, take, Some, IsSome, IsTrue, is_some, nat_le, nat_eq, if◌then◌else◌}
 use mathlib.Core.Logic.{◌≢◌}
 use Rattle.std.specs.FinMap.{get}
 use Rattle.xod_block.specs.declared.address.Address.{Address}
@@ -14,6 +14,10 @@ body_file log = body_of log.file
 
 abbrev pub ends_file : Log → ℕ
 ends_file log = ends_of log.file
+
+-- A log file is there where its body and its ends both are.
+abbrev pub has_pair : Files → ℕ → Bool
+has_pair files file = is_some (get files (body_of file)) && is_some (get files (ends_of file))
 
 -- A roll comes before the next block where the file has reached the target.
 abbrev pub is_due : Log → Bool

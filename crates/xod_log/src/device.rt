@@ -80,6 +80,8 @@ pub fn make_empty<V: Volume>(volume: &mut V, file: u64, is_there: bool) -> Resul
     requires known { IsTrue (V.tells volume.old) → is_there ≡ is_some (get (V.files volume.old) file) }
     ensures emptied { IsTrue (V.tells volume.old) → OnOk result (get (V.files volume.new) file ≡ Some []) }
     ensures reads { IsTrue (V.tells volume.old) → OnFile file Appears (V.files volume.old) (V.files volume.new) }
+    ensures unchanged { IsTrue (V.tells volume.old) → IsErrOf result LogError.Memory
+        → V.files volume.new ≡ V.files volume.old }
     ensures others { IsTrue (V.tells volume.old) → (other : ℕ) → other ≢ file
         → get (V.files volume.new) other ≡ get (V.files volume.old) other }
     ensures durable { IsTrue (V.tells volume.old) → OnOk result ((left : Files)

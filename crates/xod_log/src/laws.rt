@@ -4,8 +4,10 @@
 ghost use Rattle.std.specs.Prelude.{◌≡◌, ◌<◌, ◌^◌, ◌++◌, ℕ, List};
 ghost use Rattle.std.specs.FinMap.{get};
 ghost use Rattle.xod_volume.specs.Files.{Files};
+ghost use Rattle.xod_volume.specs.Crash.{Passes};
 ghost use Rattle.xod_log.specs.declared.log.Log.{Log};
 ghost use Rattle.xod_log.specs.Ends.{HasSealed, IsUsed, numbers, numbers_at, end_at, back_at};
+ghost use Rattle.xod_log.specs.Calls.{IsElsewhere, Appends};
 ghost use Rattle.xod_log.specs.Standing.{AsOpened, LeftStanding, Stands, body_file, ends_file, resumed_log};
 
 use xod_volume::Volume;
@@ -26,6 +28,16 @@ pub fn stands_beside_other_files<V: Volume>()
         → ((left : Files) → V.may_leave after (V.moment after) left → (was : Files)
         × V.may_leave before (V.moment before) was
         × (get left (body_file log) ≡ get was (body_file log)) × (get left (ends_file log) ≡ get was (ends_file log)))
+        → Stands log (V.files before) (V.may_leave before (V.moment before))
+        → Stands log (V.files after) (V.may_leave after (V.moment after)) }
+{}
+
+/// An append to a later log file, taken or refused, leaves the log standing: the clauses `others` and `leaves` of
+/// `append_block` are all that it takes.
+pub fn stands_beside_an_append<V: Volume>()
+    ensures { (log next : Log) (count : ℕ) (body ends : List ℕ) (before after : V) → log.file < next.file
+        → ((other : ℕ) → IsElsewhere next other → get (V.files after) other ≡ get (V.files before) other)
+        → Passes (V.moment before) (V.moment after) (V.may_leave before) (V.may_leave after) (Appends next count body ends)
         → Stands log (V.files before) (V.may_leave before (V.moment before))
         → Stands log (V.files after) (V.may_leave after (V.moment after)) }
 {}

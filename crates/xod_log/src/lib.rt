@@ -14,6 +14,6 @@ mod pair;
 pub use error::LogError;
 pub use laws::{
     nothing_is_sealed_without_marks, numbers_are_read_back, sealed_of_a_longer_body,
-    stands_after_opening, stands_beside_other_files,
+    stands_after_opening, stands_beside_an_append, stands_beside_other_files,
 };
 pub use log::Log;

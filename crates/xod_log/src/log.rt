@@ -8,7 +8,7 @@ ghost use Rattle.xod_volume.specs.Crash.{OnFile, OnBytes, Torn, Passes};
 ghost use Rattle.xod_volume.specs.Leases.{Stays};
 ghost use Rattle.xod_log.specs.declared.error.LogError.{LogError};
 ghost use Rattle.xod_log.specs.Ends.{IsUsed, body_of, ends_of};
-ghost use Rattle.xod_log.specs.Standing.{IsDurablePair, IsSettled, Stands, body_file, ends_file, is_due, is_last, last_file, resumed_log, sealed_log, empty_log, rolled_log, receiving_log, appended_log, next_place_of};
+ghost use Rattle.xod_log.specs.Standing.{IsDurablePair, IsSettled, Stands, body_file, ends_file, has_pair, is_due, is_last, last_file, resumed_log, sealed_log, empty_log, rolled_log, receiving_log, appended_log, next_place_of};
 ghost use Rattle.xod_log.specs.Calls.{IsElsewhere, IsEmptyPair, MakesPair, EndsWith, IsRolled, Seals, Rolls, Appends, BodyFirst, KeepsClaims, Outlives, marked_ends, sealed_ends};
 
 use crate::device::{append_synced, write_synced};
@@ -61,7 +61,8 @@ impl Log {
             → IsSettled other (V.files volume.old) (V.may_leave volume.old (V.moment volume.old))
             → IsSettled other (V.files volume.new) (V.may_leave volume.new (V.moment volume.new)) }
     {
-        make_pair(volume, 0)?;
+        let mut is_there = false;
+        make_pair(volume, 0, &mut is_there)?;
         Ok(Log::empty(0, target))
     }
 
@@ -109,7 +110,7 @@ impl Log {
     }
 
     /// Whether a roll comes before the next block.
-    fn is_due(&self) -> bool
+    pub fn is_due(&self) -> bool
         ensures { result ≡ is_due self.now }
     {
         self.target <= self.end
@@ -173,7 +174,8 @@ impl Log {
         if !self.is_due() {
             return self.append_here(volume, block, back);
         }
-        let mut next = self.make_next(volume)?;
+        let mut has_next = false; // not asked here
+        let mut next = self.make_next(volume, &mut has_next)?;
         let place = next.append_here(volume, block, back)?;
         *self = next;
         Ok(place)
@@ -264,8 +266,72 @@ impl Log {
             → IsSettled other (V.files volume.old) (V.may_leave volume.old (V.moment volume.old))
             → IsSettled other (V.files volume.new) (V.may_leave volume.new (V.moment volume.new)) }
     {
-        *self = self.make_next(volume)?;
+        let mut has_next = false; // not asked here
+        *self = self.make_next(volume, &mut has_next)?;
         Ok(())
+    }
+
+    /// Seals, makes the next pair, and gives the log on it, without going on to it: `self` stays on the current file.
+    /// `has_next` says whether the next log file is there, before the call and after it, but for `Device`. Where a block is
+    /// then appended to the log given, and refused, `self` goes on standing (`stands_beside_an_append`).
+    pub fn prepare_next<V: Volume>(
+        &mut self,
+        volume: &mut V,
+        has_next: &mut bool,
+    ) -> Result<Log, LogError>
+        requires stands { IsTrue (V.tells volume.old) → Stands self.old (V.files volume.old)
+            (V.may_leave volume.old (V.moment volume.old)) }
+        requires next_known { IsTrue (V.tells volume.old)
+            → has_next.old ≡ has_pair (V.files volume.old) (self.old.file + 1) }
+        ensures next { IfOk result (λ next. next ≡ rolled_log self.old) }
+        ensures log { OnOk result (self.new ≡ sealed_log self.old) }
+        ensures refused { OnErr result ((self.new ≡ self.old) ⊎ (self.new ≡ sealed_log self.old)) }
+        ensures stands_on { IsTrue (V.tells volume.old) → ¬ (IsErrOf result LogError.Device)
+            → Stands self.new (V.files volume.new) (V.may_leave volume.new (V.moment volume.new)) }
+        ensures next_stands { IsTrue (V.tells volume.old) → IfOk result (λ next.
+            Stands next (V.files volume.new) (V.may_leave volume.new (V.moment volume.new))) }
+        ensures rolled { IsTrue (V.tells volume.old) → OnOk result (
+            IsRolled self.old [] (V.files volume.old) (V.files volume.new)) }
+        ensures next_pair { IsTrue (V.tells volume.old) → OnOk result (
+            IsEmptyPair (self.old.file + 1) (V.files volume.new)) }
+        ensures next_known { IsTrue (V.tells volume.old) → ¬ (IsErrOf result LogError.Device)
+            → has_next.new ≡ has_pair (V.files volume.new) (self.old.file + 1) }
+        ensures made { OnOk result (has_next.new ≡ true) }
+        ensures never_lost { has_next.old ≡ true → has_next.new ≡ true }
+        ensures spent_leaves_it { (last : ℕ) → IsErrOf result (LogError.NumbersSpent last)
+            → has_next.new ≡ has_next.old }
+        ensures others { IsTrue (V.tells volume.old) → (other : ℕ) → IsElsewhere self.old other
+            → get (V.files volume.new) other ≡ get (V.files volume.old) other }
+        ensures reads { IsTrue (V.tells volume.old) → Rolls self.old (bytes_of (V.files volume.old) (body_file self.old))
+            (bytes_of (V.files volume.old) (ends_file self.old)) (V.files volume.old) (V.files volume.new) }
+        ensures spent { (self.old.file ≡ last_file) ↔ (result ≡ Err (LogError.NumbersSpent last_file)) }
+        ensures spent_only { (last : ℕ) → IsErrOf result (LogError.NumbersSpent last) → last ≡ last_file }
+        ensures untouched { (last : ℕ) → IsErrOf result (LogError.NumbersSpent last)
+            → (self.new ≡ self.old) × (volume.new ≡ volume.old) }
+        ensures failed { IsErrOf result LogError.Device → Rose (V.faults volume.old) (V.faults volume.new) }
+        ensures unfailed { ¬ (IsErrOf result LogError.Device) → V.faults volume.new ≡ V.faults volume.old }
+        ensures stays { Stays (V.tells volume.old) (V.tells volume.new) (V.leases volume.old) (V.leases volume.new)
+            (V.refs volume.old) (V.refs volume.new) (V.faults volume.old) (V.faults volume.new) }
+
+        // What a crash may leave.
+        ensures kept { IsTrue (V.tells volume.old) → V.may_leave volume.old (V.moment volume.old) (V.files volume.old)
+            → V.may_leave volume.new (V.moment volume.new) (V.files volume.new) }
+        ensures leaves { IsTrue (V.tells volume.old) → Passes (V.moment volume.old) (V.moment volume.new)
+            (V.may_leave volume.old) (V.may_leave volume.new) (Rolls self.old
+            (bytes_of (V.files volume.old) (body_file self.old)) (bytes_of (V.files volume.old) (ends_file self.old))) }
+        ensures claims { IsTrue (V.tells volume.old) → KeepsClaims self.old (V.files volume.old)
+            (V.moment volume.old) (V.moment volume.new) (V.may_leave volume.old) (V.may_leave volume.new) }
+        ensures durable { IsTrue (V.tells volume.old) → OnOk result (
+            Outlives self.old (V.files volume.new) (V.may_leave volume.new (V.moment volume.new))) }
+        ensures next_durable { IsTrue (V.tells volume.old) → OnOk result (IsDurablePair (self.old.file + 1)
+            (V.files volume.new) (V.may_leave volume.new (V.moment volume.new))) }
+        ensures settled { IsTrue (V.tells volume.old) → ¬ (IsErrOf result LogError.Device)
+            → (other : ℕ) → other ≢ ends_file self.old
+            → IsSettled other (V.files volume.old) (V.may_leave volume.old (V.moment volume.old))
+            → IsSettled other (V.files volume.new) (V.may_leave volume.new (V.moment volume.new)) }
+    {
+        let next = self.make_next(volume, has_next)?;
+        Ok(next)
     }
 
     // ---- the steps
@@ -366,8 +432,9 @@ impl Log {
         Ok(())
     }
 
-    /// Seals, makes the next pair, and gives the log on it.
-    fn make_next<V: Volume>(&mut self, volume: &mut V) -> Result<Log, LogError>
+    /// Seals, makes the next pair, and gives the log on it. Where `has_next` says whether the next log file is there, it
+    /// says so after the call too.
+    fn make_next<V: Volume>(&mut self, volume: &mut V, has_next: &mut bool) -> Result<Log, LogError>
         requires stands { IsTrue (V.tells volume.old) → Stands self.old (V.files volume.old)
             (V.may_leave volume.old (V.moment volume.old)) }
         ensures next { IfOk result (λ next. next ≡ rolled_log self.old) }
@@ -379,6 +446,13 @@ impl Log {
             Stands next (V.files volume.new) (V.may_leave volume.new (V.moment volume.new))) }
         ensures rolled { IsTrue (V.tells volume.old) → OnOk result (
             IsRolled self.old [] (V.files volume.old) (V.files volume.new)) }
+        ensures next_known { IsTrue (V.tells volume.old) → ¬ (IsErrOf result LogError.Device)
+            → has_next.old ≡ has_pair (V.files volume.old) (self.old.file + 1)
+            → has_next.new ≡ has_pair (V.files volume.new) (self.old.file + 1) }
+        ensures made { OnOk result (has_next.new ≡ true) }
+        ensures never_lost { has_next.old ≡ true → has_next.new ≡ true }
+        ensures spent_leaves_it { (last : ℕ) → IsErrOf result (LogError.NumbersSpent last)
+            → has_next.new ≡ has_next.old }
         ensures others { IsTrue (V.tells volume.old) → (other : ℕ) → IsElsewhere self.old other
             → get (V.files volume.new) other ≡ get (V.files volume.old) other }
         ensures reads { IsTrue (V.tells volume.old) → Rolls self.old (bytes_of (V.files volume.old) (body_file self.old))
@@ -411,7 +485,7 @@ impl Log {
             });
         };
         self.seal(volume)?;
-        make_pair(volume, file)?;
+        make_pair(volume, file, has_next)?;
         Ok(Log::empty(file, self.target))
     }
 }

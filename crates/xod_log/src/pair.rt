@@ -1,5 +1,5 @@
 //! The two volume files of a log file, and how a pair without blocks is made.
-ghost use Rattle.std.specs.Prelude.{◌≡◌, ◌≤◌, ◌+◌, ◌*◌, ◌==◌, ℕ, Bool, OnOk, IsErrOf, IsTrue};
+ghost use Rattle.std.specs.Prelude.{◌≡◌, ◌≤◌, ◌+◌, ◌*◌, ◌==◌, ◌||◌, ℕ, Bool, true, OnOk, IsErrOf, IsTrue};
 ghost use mathlib.Core.Logic.{◌≢◌};
 ghost use Rattle.std.specs.List.{list_any};
 ghost use Rattle.std.specs.FinMap.{get};
@@ -9,7 +9,7 @@ ghost use Rattle.xod_volume.specs.Crash.{Passes};
 ghost use Rattle.xod_volume.specs.Leases.{Stays};
 ghost use Rattle.xod_log.specs.declared.error.LogError.{LogError};
 ghost use Rattle.xod_log.specs.Ends.{body_of, ends_of};
-ghost use Rattle.xod_log.specs.Standing.{IsSettled};
+ghost use Rattle.xod_log.specs.Standing.{IsSettled, has_pair};
 ghost use Rattle.xod_log.specs.Calls.{IsEmptyPair, MakesPair, no_mark};
 
 use crate::device::{append_synced, make_empty};
@@ -37,13 +37,25 @@ pub fn lists(numbers: &[u64], file: u64) -> bool
     numbers.contains(&file)
 }
 
+/// Says of a thing that it is there, where it was found.
+fn found(is_there: &mut bool, here: bool)
+    ensures { is_there.new ≡ (is_there.old || here) }
+{
+    *is_there = *is_there || here;
+}
+
 /// Makes the pair of a log file, without blocks. What was there is lost, so the log file must not be used. First the ends
-/// are emptied and synced: a body never comes to stand beside ends with an open mark.
-pub fn make_pair<V: Volume>(volume: &mut V, file: u32) -> Result<(), LogError>
+/// are emptied and synced: a body never comes to stand beside ends with an open mark. `is_there` says whether the log file
+/// is there, after the call as before it.
+pub fn make_pair<V: Volume>(volume: &mut V, file: u32, is_there: &mut bool) -> Result<(), LogError>
     ensures made { IsTrue (V.tells volume.old) → OnOk result (IsEmptyPair file (V.files volume.new)) }
     ensures reads { IsTrue (V.tells volume.old) → MakesPair file (V.files volume.old) (V.files volume.new) }
     ensures others { IsTrue (V.tells volume.old) → (other : ℕ) → other ≢ body_of file → other ≢ ends_of file
         → get (V.files volume.new) other ≡ get (V.files volume.old) other }
+    ensures known { IsTrue (V.tells volume.old) → ¬ (IsErrOf result LogError.Device)
+        → is_there.old ≡ has_pair (V.files volume.old) file → is_there.new ≡ has_pair (V.files volume.new) file }
+    ensures there { OnOk result (is_there.new ≡ true) }
+    ensures never_lost { is_there.old ≡ true → is_there.new ≡ true }
     ensures durable { IsTrue (V.tells volume.old) → OnOk result ((left : Files)
         → V.may_leave volume.new (V.moment volume.new) left → IsEmptyPair file left) }
     ensures settled { IsTrue (V.tells volume.old) → ¬ (IsErrOf result LogError.Device) → (other : ℕ)
@@ -65,7 +77,9 @@ pub fn make_pair<V: Volume>(volume: &mut V, file: u32) -> Result<(), LogError>
     let has_ends = lists(&present, ends);
     let has_body = lists(&present, body);
     make_empty(volume, ends, has_ends)?;
+    found(is_there, has_body);
     make_empty(volume, body, has_body)?;
+    *is_there = true;
     append_synced(volume, ends, &[0; 13])?;
     Ok(())
 }

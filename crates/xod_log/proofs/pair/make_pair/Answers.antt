@@ -3,13 +3,13 @@ use Rattle.std.specs.FinMap.{get}
 use Rattle.xod_volume.specs.Files.{Files, Content, bytes_in}
 use Rattle.xod_volume.specs.Crash.{OnFile, Appears, Passes}
 use Rattle.xod_log.specs.Ends.{body_of, ends_of}
-use Rattle.xod_log.specs.Standing.{IsSettled}
+use Rattle.xod_log.specs.Standing.{IsSettled, has_pair}
 use Rattle.xod_log.specs.Calls.{IsEmptyPair, MakesPair}
 use Rattle.xod_log.specs.Runs.{Run}
-use Rattle.xod_log.proofs.Appending.{not_device}
+use Rattle.xod_log.proofs.Appending.{not_device, passed_memory}
 use Rattle.xod_log.proofs.Changed.{appended_file}
 use Rattle.xod_log.proofs.Claims.{files_apart}
-use Rattle.xod_log.proofs.Pairs.{Short, listed, emptied_fine, emptied_short, short_body, short_mark, short_fine, run_listed, run_ends, run_body, run_mark, pair_left}
+use Rattle.xod_log.proofs.Pairs.{Short, listed, found_pair, emptied_fine, emptied_short, short_body, short_mark, short_fine, run_listed, run_ends, run_body, run_mark, pair_left}
 use Rattle.xod_log.proofs.Synced.{settled_rest}
 use Rattle.xod_log.proofs.pair.make_pair.Given.{Over}
 use Rattle.xod_log.proofs.pair.make_pair.Goals.{After-make_empty, In_ok-make_empty, After-make_empty-2, In_ok-make_empty-2, After-append_synced, In_ok-append_synced}
@@ -21,7 +21,7 @@ abbrev emptying : (g : Over) → In_ok-make_empty g → After-make_empty g
 emptying g c = c.before.before
 
 abbrev emptied : (g : Over) → After-make_empty-2 g → In_ok-make_empty g
-emptied g c = c.before.before
+emptied g c = c.before.before.before.before
 
 abbrev emptying-both : (g : Over) → In_ok-make_empty-2 g → After-make_empty-2 g
 emptying-both g c = c.before.before
@@ -87,6 +87,20 @@ body-settled : (g : Over) (c : In_ok-make_empty-2 g) → IsTrue (g.V.Volume.tell
 body-settled g c told other was =
     let t2 : IsTrue (g.V.Volume.tells c.make_empty.new.volume) = rw (c.make_empty.ensures.stays.tells, c.files.ensures.stays.tells) told in
     c.in_ok-make_empty-2.ensures.settled t2 (λ bad. search rules) other (ends-settled g (emptied g (emptying-both g c)) told other was)
+
+-- ---- whether the pair is there, once the ends are
+
+found-known : (g : Over) (c : After-make_empty-2 g) → IsTrue (g.V.Volume.tells c.args.volume.now)
+    → c.args.is_there.now ≡ has_pair (g.V.Volume.files c.args.volume.now) c.args.file → c.found.new.is_there ≡ has_pair (g.V.Volume.files c.make_empty.new.volume) c.args.file
+found-known g c told known =
+    let t1 : IsTrue (g.V.Volume.tells c.files.new.self) = rw c.files.ensures.stays.tells told in
+    let v0 = c.args.volume.now in
+    let here = listed (g.V.Volume.files v0) (g.V.Volume.files v0) _ _ c.body_file-body.result _ c.lists-has_body.ensures c.deref-2.ensures.value (c.in_ok-present.ensures.listed told) refl in
+    found_pair c.args.file (g.V.Volume.files v0) (g.V.Volume.files c.make_empty.new.volume) c.args.is_there.now c.lists-has_body.result c.found.new.is_there known
+    (rw c.body_file-body.ensures at here)
+    ((ends-read g (emptying g (emptied g c)) told).others (body_of c.args.file) (files_apart c.args.file))
+    (rw c.ends_file-ends.ensures at c.in_ok-make_empty.ensures.emptied t1)
+    c.found.ensures
 
 -- ---- a closed mark is appended
 
@@ -181,6 +195,13 @@ returns-in_err-make_empty-2-clause-settled g c told fine other was =
     let t2 : IsTrue (g.V.Volume.tells c.make_empty.new.volume) = rw (c.make_empty.ensures.stays.tells, c.files.ensures.stays.tells) told in
     let same = not_device c.make_empty-2.result c.from_residual-in_err-make_empty-2.result c.in_err-make_empty-2.field-0.0 (c.in_err-make_empty-2.was {u = tt}) c.from_residual-in_err-make_empty-2.ensures.1 fine in
     c.make_empty-2.ensures.settled t2 same other (ends-settled g (goal.at.returns-in_err-make_empty-2-clause-settled g c).In_ok-make_empty told other was)
+
+pub returns-in_err-make_empty-2-clause-known : goal.returns-in_err-make_empty-2-clause-known
+returns-in_err-make_empty-2-clause-known g c told fine known =
+    let t2 : IsTrue (g.V.Volume.tells c.make_empty.new.volume) = rw (c.make_empty.ensures.stays.tells, c.files.ensures.stays.tells) told in
+    let memory = passed_memory c.make_empty-2.result c.from_residual-in_err-make_empty-2.result c.in_err-make_empty-2.field-0.0 (c.in_err-make_empty-2.was {u = tt}) c.from_residual-in_err-make_empty-2.ensures.1 fine c.make_empty-2.ensures.numbers_left in
+    found-known g (goal.at.returns-in_err-make_empty-2-clause-known g c).After-make_empty-2 told known
+    ∙ sym (ap (λ (F : Files). has_pair F c.args.file) (c.make_empty-2.ensures.unchanged t2 memory))
 
 pub returns-in_err-append_synced-clause-crash : goal.returns-in_err-append_synced-clause-crash
 returns-in_err-append_synced-clause-crash g c = mark-left g (goal.at.returns-in_err-append_synced-clause-crash g c).After-append_synced

@@ -1,11 +1,11 @@
-use Rattle.std.proofs.Common.{rules, IsTrue, ◌+◌, sym, subst}
+use Rattle.std.proofs.Common.{rules, IsTrue, ◌+◌, sym, subst, ◌∙◌}
 use Rattle.xod_volume.specs.Files.{bytes_of}
 use Rattle.xod_log.specs.declared.log.Log.{Log}
 use Rattle.xod_log.specs.Standing.{Stands, body_file, ends_file}
 use Rattle.xod_log.specs.Calls.{Rolls, MakesPair, BodyFirst}
 use Rattle.xod_log.proofs.Runs.{rested}
 use Rattle.xod_log.proofs.Pairs.{empty_stands}
-use Rattle.xod_log.proofs.Rolling.{start_rolls, seal_rolls, pair_rolls, making_apart, making_stands, first_after, stood_first}
+use Rattle.xod_log.proofs.Rolling.{sealing_has_next, start_rolls, seal_rolls, pair_rolls, making_apart, making_stands, first_after, stood_first}
 use Rattle.xod_log.proofs.Synced.{settled_after}
 use Rattle.xod_log.proofs.log.Log.make_next.Given.{Over}
 use Rattle.xod_log.proofs.log.Log.make_next.Goals.{After-make_pair}
@@ -117,3 +117,18 @@ returns-clause-settled g c told fine other apart was =
     let t1 : IsTrue (g.V.Volume.tells c.seal.new.volume) = rw c.seal.ensures.stays.tells told in
     c.in_ok-make_pair.ensures.settled t1 (λ bad. search rules) other
     (settled_after other _ _ _ _ _ _ _ (c.seal.ensures.leaves told) (λ was left s. s.others other apart) (c.seal.ensures.others told other apart) was)
+
+-- ---- whether the next log file is there
+
+pub returns-in_err-seal-clause-next_known : goal.returns-in_err-seal-clause-next_known
+returns-in_err-seal-clause-next_known g c told fine known = known ∙ sym (sealing_has_next c.args.self.now _ _ (c.seal.ensures.others told))
+
+pub returns-in_err-make_pair-clause-next_known : goal.returns-in_err-make_pair-clause-next_known
+returns-in_err-make_pair-clause-next_known g c told fine known =
+    let t1 : IsTrue (g.V.Volume.tells c.seal.new.volume) = rw c.seal.ensures.stays.tells told in
+    (rw c.in-Some.ensures.1 at c.make_pair.ensures.known t1 (λ bad. search rules)) (known ∙ sym (sealing_has_next c.args.self.now _ _ (c.seal.ensures.others told)))
+
+pub returns-clause-next_known : goal.returns-clause-next_known
+returns-clause-next_known g c told fine known =
+    let t1 : IsTrue (g.V.Volume.tells c.seal.new.volume) = rw c.seal.ensures.stays.tells told in
+    (rw c.in-Some.ensures.1 at c.in_ok-make_pair.ensures.known t1 (λ bad. search rules)) (known ∙ sym (sealing_has_next c.args.self.now _ _ (c.seal.ensures.others told)))
