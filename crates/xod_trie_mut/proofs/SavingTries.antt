@@ -1,5 +1,5 @@
 -- What a save of a trie in memory means.
-use Rattle.std.proofs.Common.{◌≡◌, ◌≤◌, ℕ, suc, List, [], ◌++◌, length, Option, Some, None, refl, sym, ◌∙◌, ap, subst, arith}
+use Rattle.std.proofs.Common.{◌≡◌, ◌≤◌, ℕ, suc, List, [], ◌++◌, length, Option, Some, None, refl, sym, ◌∙◌, ap, subst, arith, length-append}
 use Rattle.std.specs.Prelude.{◌↔◌, IfSome, IsSome, is_some}
 use Rattle.std.specs.FinMap.{empty, from_entries}
 use Rattle.std.specs.List.{AllByRecursion}
@@ -34,6 +34,13 @@ module _ (at : Address) (block : List ℕ) (base : Option Address) (own : List B
   save-falls None low index b e = absurd cc
   save-falls (Some root) low index b e = ((block-fine at block base own sound below (suc (length own)) [] root (root-reach base own root low)).seated (λ i x none. absurd cc) index b e).low
 
+  pub save-low : (root : Option Address) → IsRoot base (length own) root → IsBelow (behind root).root (further at (length (block ++ spelled (behind root).branches)))
+  save-low None low = tt
+  save-low (Some root) low =
+      let lt = (block-fine at block base own sound below (suc (length own)) [] root (root-reach base own root low)).low in
+      let both = length-append block (spelled (behind (Some root)).branches) in
+      omega (arith, lt, both)
+
   pub save-map : (records : RecordsAt) → number_of at ≤ own_start → (root : Option Address) → IsRoot base (length own) root → AllByRecursion FitsBranch (behind root).branches → IsSome (trie_map (with_own own records) root) → trie_map (with_block (number_of at) (block ++ spelled (behind root).branches) records) (behind root).root ≡ trie_map (with_own own records) root
   save-map records small None low fits some = refl
   save-map records small (Some root) low fits some = ap (option_map (λ (pairs : Pairs). from_entries {R = bytes_cmp} pairs)) (block-map at block base own sound below records small (suc (length own)) [] root (root-reach base own root low) (has_pairs (with_own own records) root some) fits)
@@ -57,6 +64,13 @@ fits-of at old own root trie e f fits =
 
 pub trie-falls : (at : Address) (block : List ℕ) (trie : TrieView) → IsSound trie → IsBelow trie.base at → ChildrenFall (block_places (further at (length block))) (saved_behind at block trie).branches
 trie-falls at block trie sound below = save-falls at block trie.base trie.own sound.own below trie.root sound.root
+
+-- the root stands before the end of the block
+pub trie-low : (at : Address) (old new : List ℕ) (trie : TrieView) (root : Option Address) → IsSound trie → IsBelow trie.base at → IsSavedBehind at old new trie root → IsBelow root (further at (length new))
+trie-low at old new trie root sound below s =
+    let before = save-low at old trie.base trie.own sound.own below trie.root sound.root in
+    let whole = subst (λ (l : List ℕ). IsBelow (saved_behind at old trie).root (further at (length l))) (sym s.block) before in
+    subst (λ (r : Option Address). IsBelow r (further at (length new))) (sym s.root_is) whole
 
 pub trie-means : (at : Address) (old new : List ℕ) (trie : TrieView) (root : Option Address) → IsSound trie → IsBelow trie.base at → number_of at ≤ own_start → IsSavedBehind at old new trie root → AllByRecursion FitsBranch (saved_behind at old trie).branches → (records : RecordsAt) → IfSome (mut_map trie records) (λ map. trie_map (with_block (number_of at) new records) root ≡ Some map)
 trie-means at old new trie root sound below small s fits records = if-some (mut_map trie records) _ (λ map e.

@@ -300,6 +300,8 @@ impl MutTrie {
             IfOk result (λ root. (root ≡ None) ↔ (map ≡ empty))) }
         ensures untouched { IsUntouched self.now.root → IfOk result (λ root.
             (root ≡ self.now.root) × (block.new ≡ block.old)) }
+        ensures root_is_before_the_end { IfOk result (λ root.
+            IsBelow root (further at (length block.new))) }
 
         // Each branch is a record, and names what stands before it.
         ensures records { OnOk result (AllByRecursion FitsBranch
