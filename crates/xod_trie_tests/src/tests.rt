@@ -1,4 +1,5 @@
 //! The tests, a module for each subject.
+mod commit;
 mod deep;
 mod edges;
 mod failing;

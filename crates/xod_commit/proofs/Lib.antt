@@ -1,0 +1,6 @@
+mod Finite
+mod Fitting
+mod Numbers
+mod Steps
+mod Touches
+mod Walks
