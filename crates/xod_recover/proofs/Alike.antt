@@ -26,7 +26,7 @@ use Rattle.xod_log.specs.Ends.{numbers_at, end_at, back_at, body_of, ends_of}
 use Rattle.xod_recover.specs.Check.{Newest, Rooted, no_newest, bodies_upto, records_upto, has_body, rooted_in, root_address, check_trees, check_root, check_back, check_body, check_file, check_used, check}
 use Rattle.xod_recover.specs.Opened.{open_count, is_used, greatest_used}
 use Rattle.xod_recover.specs.Stores.{Stored, root_of, stored_by, stored_of}
-use Rattle.xod_recover.specs.Walks.{or_else, first_bad, bad_branch, bad_within, bad_under, bad_trees}
+use Rattle.xod_recover.specs.Walks.{file_at, or_else, first_bad, bad_branch, bad_within, bad_under, bad_trees}
 use Rattle.xod_recover.specs.Whole.{IsWhole}
 use Rattle.xod_recover.proofs.Greatest.{greatest_alike, greatest_used_is}
 use Rattle.xod_recover.proofs.Wholes.{trees-whole}
@@ -43,20 +43,20 @@ branch-alike : (f g : Address → Address → Option Place) (at : Address) → (
 branch-alike f g at same None = refl
 branch-alike f g at same (Some branch) = first_bad-alike (f at) (g at) same branch.children
 
-module _ (r s : RecordsAt) (has other : ℕ → Bool) (bound : ℕ) (same : (n : ℕ) → n < bound → r n ≡ s n) (bodies : (at : Address) → number_of at < bound → has at.file ≡ other at.file) where
+module _ (r s : RecordsAt) (has other : ℕ → Bool) (bound : ℕ) (same : (n : ℕ) → n < bound → r n ≡ s n) (bodies : (at : Address) → number_of at < bound → has (file_at at) ≡ other (file_at at)) where
   within-alike : (m : ℕ) (naming at : Address) → number_of naming ≤ bound → bad_within m r has naming at ≡ bad_within m s other naming at
   within-alike zero naming at le = refl
   within-alike (suc m) naming at le = elim (cases_lt (number_of at) (number_of naming)) [
     | inl lt ↦
         let below : number_of at < bound = omega (arith, lt, le) in
         ap (λ (b : Bool). cond (ltb (number_of at) (number_of naming) && b) (bad_branch (bad_within m r has) at (branch_of (r (number_of at)))) (Some (place_of naming))) (bodies at below)
-        ∙ ap (λ (o : Option RecordValue). cond (ltb (number_of at) (number_of naming) && other at.file) (bad_branch (bad_within m r has) at (branch_of o)) (Some (place_of naming))) (same (number_of at) below)
-        ∙ ap (λ (o : Option Place). cond (ltb (number_of at) (number_of naming) && other at.file) o (Some (place_of naming)))
+        ∙ ap (λ (o : Option RecordValue). cond (ltb (number_of at) (number_of naming) && other (file_at at)) (bad_branch (bad_within m r has) at (branch_of o)) (Some (place_of naming))) (same (number_of at) below)
+        ∙ ap (λ (o : Option Place). cond (ltb (number_of at) (number_of naming) && other (file_at at)) o (Some (place_of naming)))
         (branch-alike (bad_within m r has) (bad_within m s other) at (λ child. within-alike m at child (omega (arith, below))) (branch_of (s (number_of at))))
     | inr ge ↦
         let no_less : ltb (number_of at) (number_of naming) ≡ false = le-ltb (number_of at) (number_of naming) ge in
-        ap (λ (b : Bool). cond (b && has at.file) (bad_branch (bad_within m r has) at (branch_of (r (number_of at)))) (Some (place_of naming))) no_less
-        ∙ sym (ap (λ (b : Bool). cond (b && other at.file) (bad_branch (bad_within m s other) at (branch_of (s (number_of at)))) (Some (place_of naming))) no_less)
+        ap (λ (b : Bool). cond (b && has (file_at at)) (bad_branch (bad_within m r has) at (branch_of (r (number_of at)))) (Some (place_of naming))) no_less
+        ∙ sym (ap (λ (b : Bool). cond (b && other (file_at at)) (bad_branch (bad_within m s other) at (branch_of (s (number_of at)))) (Some (place_of naming))) no_less)
   ]
 
   under-alike : (naming at : Address) → number_of naming ≤ bound → bad_under r has naming at ≡ bad_under s other naming at
@@ -113,10 +113,10 @@ module _ (a b : Files) where
     record-same : (n : ℕ) → n < number_of root → records_upto a file end n ≡ records_upto b file end n
     record-same n lt = ap (λ (l : List ℕ). record_in (drop (n % 2 ^ 64) l)) (body-same (n / 2 ^ 64) (omega (arith, lt)))
 
-    has-same : (at : Address) → number_of at < number_of root → has_body a at.file ≡ has_body b at.file
-    has-same at lt = elim (cases_eq at.file file) [
+    has-same : (at : Address) → number_of at < number_of root → has_body a (file_at at) ≡ has_body b (file_at at)
+    has-same at lt = elim (cases_eq (file_at at) file) [
       | inl is ↦ subst (λ (k : ℕ). has_body a k ≡ has_body b k) (sym is) there
-      | inr apart ↦ ap (λ (c : Content). is_some c) (beside at.file (omega (arith, lt)) apart)
+      | inr apart ↦ ap (λ (c : Content). is_some c) (beside (file_at at) (omega (arith, lt)) apart)
     ]
 
     abbrev named : ℕ → Rooted → Newest

@@ -15,3 +15,14 @@ pub use Rattle.xod_recover.proofs.Newests.{greatest-used, used-parts, check-newe
 pub use Rattle.xod_recover.proofs.Storing.{good-maps, stored-maps}
 -- reads of a volume in a row
 pub use Rattle.xod_recover.proofs.OnlyReading.{reads-none, reads-then, reads-over, reads-on, rose-later}
+-- what an opening keeps, and what stands above the root found
+pub use Rattle.xod_recover.proofs.Keeps.{keeps-same, keeps-as, keeps-then, settled-over}
+pub use Rattle.xod_recover.proofs.Reopening.{fresh-from, above-from, used-open, not-used, ends-root}
+pub use Rattle.xod_recover.proofs.Recovering.{is-found, same-newest}
+-- near images
+pub use Rattle.xod_recover.proofs.CutKeeps.{but_any, near_found, settled_found}
+-- files that are decided alike, and store the same
+pub use Rattle.xod_recover.proofs.Alike.{agree-by, marked, long-agree, size-agree, all-agree, map-alike, SaysSame}
+pub use Rattle.xod_recover.proofs.Counts.{count_is}
+pub use Rattle.xod_recover.proofs.Greatest.{same_used, used_by_count, used_has, greatest_used_is, greatest-above, greatest_is, greatest_alike}
+pub use Rattle.xod_recover.proofs.Counts.{is_long, opens_below, opens_gate, stops}

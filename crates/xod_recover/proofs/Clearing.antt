@@ -1,5 +1,5 @@
 -- A log file above the one found is emptied: what each image stores on the way, and what reads give.
-use Rattle.std.proofs.Common.{◌≡◌, ◌<◌, ◌⊎◌, ℕ, suc, pred, true, false, ltb, List, [], take, Some, None, is_some, refl, sym, ◌∙◌, ap, subst, arith, inl, inr}
+use Rattle.std.proofs.Common.{◌≡◌, ◌<◌, ◌≤◌, ◌⊎◌, ℕ, suc, pred, true, false, ltb, List, [], take, Some, None, is_some, refl, sym, ◌∙◌, ap, subst, arith, inl, inr}
 use mathlib.Core.Logic.{◌≢◌}
 use Rattle.std.proofs.lemmas.Bool.{cases_Bool, cases_eq, cases_lt, lt-ltb, ltb-true, true≢false}
 use Rattle.std.specs.FinMap.{get, insert}
@@ -8,16 +8,18 @@ use Rattle.xod_volume.specs.Crash.{OnFile, OnBytes, Shortened, Passes, IsSame}
 use Rattle.xod_volume.proofs.CallerLemmas.{same_files}
 use Rattle.xod_log.specs.Ends.{numbers_at, body_of, ends_of}
 use Rattle.xod_log.specs.Runs.{Run}
-use Rattle.xod_log.specs.Standing.{IsDurablePair}
+use Rattle.xod_log.specs.Standing.{IsDurablePair, last_file}
 use Rattle.xod_log.proofs.CallerLemmas.{begun, goes, sure, other_file}
 use Rattle.xod_recover.specs.Check.{Newest, check}
 use Rattle.xod_recover.specs.Images.{Settled}
+use Rattle.xod_recover.specs.Keeping.{KeepsFound}
 use Rattle.xod_recover.specs.Opened.{open_count, is_used}
 use Rattle.xod_recover.specs.Stores.{stored_in}
 use Rattle.xod_recover.specs.Tails.{Covers, IsFoundIn, IsNearBut, AllNear, AllNearBut}
 use Rattle.xod_recover.proofs.Alike.{Agree}
 use Rattle.xod_recover.proofs.CutImages.{agrees, count, file_above, file_body, file_ends, file_long, file_used}
-use Rattle.xod_recover.proofs.Greatest.{same_used, used_by_count, used_has}
+use Rattle.xod_recover.proofs.Greatest.{same_used, used_alike, used_by_count, used_has}
+use Rattle.xod_recover.proofs.Keeps.{on_there}
 
 none_open : open_count [] ≡ 0
 unfolding open_count
@@ -83,15 +85,15 @@ module _ (newest : Newest) (files : Files) (found : IsFoundIn newest files) (oth
     says = refl;
   }
 
-  -- what was found is found still
-  pub found_still : (after : Files) → ((k : ℕ) → k ≢ body_of other → k ≢ ends_of other → get after k ≡ get files k) → get after (ends_of other) ≡ Some [] → IsFoundIn newest after
-  found_still after others empty =
+  -- and so is what they give where all else is as it was
+  near_still : (after : Files) → ((k : ℕ) → k ≢ body_of other → k ≢ ends_of other → get after k ≡ get files k) → IsNearBut newest other files after
+  near_still after others =
       let apart : (k : ℕ) → k ≢ other → (get after (body_of k) ≡ get files (body_of k)) × (get after (ends_of k) ≡ get files (ends_of k)) = λ k away. (
         others (body_of k) (λ e. away (omega (arith, e))) (λ e. omega (arith, e)),
         others (ends_of k) (λ e. omega (arith, e)) (λ e. away (omega (arith, e))),
       ) in
       let here = apart file (λ e. omega (arith, e, gt)) in
-      let near : IsNearBut newest other files after = record {
+      record {
         has_body = ap (λ (c : Content). is_some c) here.0 ∙ files_near.has_body;
         has_ends = ap (λ (c : Content). is_some c) here.1 ∙ files_near.has_ends;
         others = λ more past low away. let same = apart more away in same_used after files more same.0 same.1 ∙ files_near.others more past low away;
@@ -99,13 +101,54 @@ module _ (newest : Newest) (files : Files) (found : IsFoundIn newest files) (oth
         covers = subst (λ (c : Content). Covers (bytes_of files (body_of file)) (bytes_in c) newest.end) (sym here.0) files_near.covers;
         count = ap (λ (c : Content). open_count (bytes_in c)) here.1 ∙ files_near.count;
         says = ap (λ (c : Content). numbers_at (bytes_in c) (pred newest.marks)) here.1;
-      } in
+      }
+
+  -- what was found is found still
+  pub found_still : (after : Files) → ((k : ℕ) → k ≢ body_of other → k ≢ ends_of other → get after k ≡ get files k) → get after (ends_of other) ≡ Some [] → IsFoundIn newest after
+  found_still after others empty =
+      let near = near_still after others in
       record {
         some = found.some;
         fits = found.fits;
         decided = (but_agrees after near (empty_unused after other empty)).0 ∙ found.decided;
         says = near.says ∙ found.says;
       }
+
+  -- whatever the calls on that pair answered, what was found is kept
+  kept_still : other ≤ last_file → (after : Files) → ((k : ℕ) → k ≢ body_of other → k ≢ ends_of other → get after k ≡ get files k) → is_some (get after (body_of other)) ≡ is_some (get files (body_of other))
+      → OnBytes (Shortened 0) (get files (ends_of other)) (get after (ends_of other)) → KeepsFound newest files after
+  kept_still low after others body ends =
+      let unused : is_used after other ≡ false = elim (cut_or_not (get files (ends_of other)) (get after (ends_of other)) ends) [
+        | inl same ↦ used_alike after files other body same ∙ file_above newest files found other (omega (arith, gt)) low
+        | inr empty ↦ empty_unused after other empty
+      ] in
+      let near = near_still after others in
+      let agree = but_agrees after near unused in
+      record {
+        decided = agree.0;
+        stored = agree.1;
+        there = λ k. elim (cases_eq k (body_of other)) [
+          | inl is ↦ subst (λ (j : ℕ). is_some (get after j) ≡ is_some (get files j)) (sym is) body
+          | inr not_body ↦ elim (cases_eq k (ends_of other)) [
+            | inl is ↦ subst (λ (j : ℕ). is_some (get after j) ≡ is_some (get files j)) (sym is) (on_there (Shortened 0) (get files (ends_of other)) (get after (ends_of other)) ends)
+            | inr not_ends ↦ ap (λ (c : Content). is_some c) (others k not_body not_ends)
+          ]
+        ];
+        lower = λ k lt. others k (λ e. omega (arith, e, lt, gt)) (λ e. omega (arith, e, lt, gt));
+        beyond = λ k lt. others k (λ e. omega (arith, e, lt, low)) (λ e. omega (arith, e, lt, low));
+        front = near.covers;
+      }
+
+  -- after the first call
+  pub keeps_one : other ≤ last_file → (F1 : Files) → OnFile (ends_of other) (OnBytes (Shortened 0)) files F1 → KeepsFound newest files F1
+  keeps_one low F1 on = kept_still low F1 (λ k not_body not_ends. on.others k not_ends) (ap (λ (c : Content). is_some c) (on.others (body_of other) (λ e. omega (arith, e)))) on.here
+
+  -- and after both
+  pub keeps_both : other ≤ last_file → (F1 F2 : Files) → OnFile (ends_of other) (OnBytes (Shortened 0)) files F1 → OnFile (body_of other) (OnBytes (Shortened 0)) F1 F2 → KeepsFound newest files F2
+  keeps_both low F1 F2 first second = kept_still low F2
+      (λ k not_body not_ends. second.others k not_body ∙ first.others k not_ends)
+      (on_there (Shortened 0) (get F1 (body_of other)) (get F2 (body_of other)) second.here ∙ ap (λ (c : Content). is_some c) (first.others (body_of other) (λ e. omega (arith, e))))
+      (subst (λ (c : Content). OnBytes (Shortened 0) (get files (ends_of other)) c) (sym (second.others (ends_of other) (λ e. omega (arith, e)))) first.here)
 
   -- a settled volume is near
   pub settled_but : (images : Files → Type 0) → Settled files images → AllNearBut newest other files images
@@ -183,6 +226,21 @@ module _ (newest : Newest) (files : Files) (found : IsFoundIn newest files) (oth
                   e.near.lower low lt (sym (ap (λ (c : Content). is_some c) same) ∙ there) ∙ sym same;
               covers = subst (λ (c : Content). Covers (bytes_in c) (bytes_of left (body_of file)) newest.end) (sym body) e.near.covers;
               says = λ more. e.near.says ∙ sym (ap (λ (c : Content). numbers_at (bytes_in c) (pred newest.marks)) ends);
+            }
+
+        pub as_found_both : AllNearBut newest file after (i2 t2)
+        as_found_both left i =
+            let near = near_both left i in
+            let e = (run_both.present left i).2 in
+            let ends : get after (ends_of file) ≡ get files (ends_of file) = reads (ends_of file) (λ is. omega (arith, is)) (λ is. omega (arith, is, gt)) in
+            record {
+              has_body = near.has_body;
+              has_ends = near.has_ends;
+              others = λ more past low away. near.above more (omega (arith, past)) low;
+              lower = near.lower;
+              covers = near.covers;
+              count = e.near.count;
+              says = e.near.says ∙ sym (ap (λ (c : Content). numbers_at (bytes_in c) (pred newest.marks)) ends);
             }
 
         -- and a settled volume is settled again

@@ -110,7 +110,7 @@ module _ (newest : Newest) (files : Files) (found : IsFoundIn newest files) wher
     -- ---- the images, each beside the one that it comes of
 
     -- the ends are as they were, or cut
-    cut_some : (was left : Files) → IsNear newest files was → OnFile (ends_of file) (OnBytes (Shortened kept)) was left
+    pub cut_some : (was left : Files) → IsNear newest files was → OnFile (ends_of file) (OnBytes (Shortened kept)) was left
         → (get left (ends_of file) ≡ get was (ends_of file)) ⊎ (get left (ends_of file) ≡ Some (take kept (bytes_of was (ends_of file))))
     cut_some was left near on =
         let there = there_with was (ends_of file) near.has_ends in
@@ -170,18 +170,18 @@ module _ (newest : Newest) (files : Files) (found : IsFoundIn newest files) wher
                 }
           ])).1
 
-      more_found : m ≤ open_count was_ends → stored_in left ≡ stored_in files
-      more_found more = (agrees left body_there ends_there
+      pub more_agrees : m ≤ open_count was_ends → Agree left files (check left) (check files)
+      more_agrees more = agrees left body_there ends_there
           (λ other gt low. same_used left was other (bodies other) (others (ends_of other) (λ e. omega (arith, e, gt))) ∙ near.above other gt low)
           (λ other lt there. bodies other ∙ near.lower other lt there)
           (subst (λ (c : Content). Covers B (bytes_in c) end) (sym (bodies file)) near.covers)
           (ap open_count bytes ∙ cut_above was_ends m more)
-          (same_at (pred m) (omega arith) ∙ near.says more)).1
+          (same_at (pred m) (omega arith) ∙ near.says more)
 
       pub cut_stored : (stored_in left ≡ stored_in was) ⊎ (stored_in left ≡ stored_in files)
       cut_stored = elim (cases_lt (open_count was_ends) m) [
         | inl few ↦ inl (few_alike few)
-        | inr more ↦ inr (more_found more)
+        | inr more ↦ inr (more_agrees more).1
       ]
 
     -- the ends are cut for good, but for what is to be a closed mark

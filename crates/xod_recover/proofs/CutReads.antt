@@ -148,6 +148,15 @@ module _ (newest : Newest) (files : Files) (found : IsFoundIn newest files) wher
       pub decided : check after ≡ check files
       decided = (tail_agrees newest files found fits after reads_tail).0
 
+      -- what was found is found still
+      pub still_found : IsFoundIn newest after
+      still_found = record {
+        some = found.some;
+        fits = found.fits;
+        decided = decided ∙ found.decided;
+        says = same_numbers m (pred m) (bytes_of after (ends_of file)) E front_is (omega (arith, found.some)) ∙ found.says;
+      }
+
       pub opened_as : (images : Files → Type 0) → ((left : Files) → images left → get left (body_of file) ≡ get after (body_of file)) → ((left : Files) → images left → get left (ends_of file) ≡ get after (ends_of file))
           → AsOpened file end m newest.back after images
       opened_as images each_body each_ends = record {

@@ -33,6 +33,13 @@ same_used a b file body ends =
     ap (λ (c : Content). is_some c && (is_some (get a (ends_of file)) && ltb 0 (open_count (bytes_of a (ends_of file))))) body
     ∙ ap (λ (c : Content). is_some (get b (body_of file)) && (is_some c && ltb 0 (open_count (bytes_in c)))) ends
 
+-- how a file is used goes by whether its body is there, and by its ends
+pub used_alike : (a b : Files) (file : ℕ) → is_some (get a (body_of file)) ≡ is_some (get b (body_of file)) → get a (ends_of file) ≡ get b (ends_of file) → is_used a file ≡ is_used b file
+unfolding is_used
+used_alike a b file body ends =
+    ap (λ (t : Bool). t && (is_some (get a (ends_of file)) && ltb 0 (open_count (bytes_of a (ends_of file))))) body
+    ∙ ap (λ (c : Content). is_some (get b (body_of file)) && (is_some c && ltb 0 (open_count (bytes_in c)))) ends
+
 -- what a used file has
 pub record HasPair (files : Files) (file : ℕ) : Type 0 where
   pub body : is_some (get files (body_of file)) ≡ true
@@ -80,7 +87,7 @@ at-used files file used low =
     ∙ ap (λ (b : Bool). used_at files (cond b (Some file) None)) (le-leb file last_file low)
     ∙ cond-true (is_used files file) (Some file) None used
 
-same-number : (a b : ℕ) → eq_by_cmp nat_cmp a b ≡ true → a ≡ b
+pub same-number : (a b : ℕ) → eq_by_cmp nat_cmp a b ≡ true → a ≡ b
 same-number a b e = eqb-true a b (unsigned_ties a b ∙ e)
 
 later-some : (later earlier : Option ℕ) (file : ℕ) → later_or later earlier ≡ Some file → (later ≡ Some file) ⊎ ((later ≡ None) × (earlier ≡ Some file))
@@ -121,20 +128,20 @@ found-listed files (number ∷ numbers) file found = elim (later-some (last_used
 
 -- ---- the numbers rise
 
-T-first : (a b : Bool) → T (a && b) → T a
+pub T-first : (a b : Bool) → T (a && b) → T a
 T-first true b t = tt
 T-first false b t = t
 
-T-second : (a b : Bool) → T (a && b) → T b
+pub T-second : (a b : Bool) → T (a && b) → T b
 T-second true b t = t
 T-second false b t = absurd t
 
-less : (o : Ordering) (a b : ℕ) → o ≡ nat_cmp a b → T (is_lt o) → a < b
+pub less : (o : Ordering) (a b : ℕ) → o ≡ nat_cmp a b → T (is_lt o) → a < b
 less Less a b is t = ranked a b Less is
 less Equal a b is t = absurd t
 less Greater a b is t = absurd t
 
-above-first : (number other : ℕ) (es : List (ℕ × List ℕ)) → T (below_all nat_cmp number es) → list_any (eq_by_cmp nat_cmp other) (map (λ e. e.0) es) ≡ true → number < other
+pub above-first : (number other : ℕ) (es : List (ℕ × List ℕ)) → T (below_all nat_cmp number es) → list_any (eq_by_cmp nat_cmp other) (map (λ e. e.0) es) ≡ true → number < other
 above-first number other [] below there = absurd cc
 above-first number other (e ∷ es) below there =
     elim (or_cases (eq_by_cmp nat_cmp other e.0) (list_any (eq_by_cmp nat_cmp other) (map (λ e. e.0) es)) there) [

@@ -23,7 +23,7 @@ use Rattle.xod_trie.specs.Tries.{TrieMap, trie_map}
 use Rattle.xod_log.specs.Ends.{body_of}
 use Rattle.xod_recover.specs.Check.{Newest, Rooted, bodies_upto, records_upto, has_body, rooted_in, root_address, check_trees, check_root, check_back, check}
 use Rattle.xod_recover.specs.Stores.{Stored, root_of, stored_by}
-use Rattle.xod_recover.specs.Walks.{or_else, first_bad, bad_branch, bad_within, bad_under, bad_trees}
+use Rattle.xod_recover.specs.Walks.{file_at, or_else, first_bad, bad_branch, bad_within, bad_under, bad_trees}
 use Rattle.xod_recover.specs.Whole.{IsWhole}
 use Rattle.xod_recover.proofs.Alike.{Agree, agree-by, LastMark, check-marked, not-err, trees-ok}
 use Rattle.xod_recover.proofs.Wholes.{trees-whole}
@@ -55,16 +55,16 @@ record-kept f g at kept (Some item) p more none =
     ap (λ (q : Option RecordValue). bad_branch g at (branch_of q)) (more item refl) ∙ branch-kept f g at kept (branch_of (Some item)) none
 
 module _ (r s : RecordsAt) (has other : ℕ → Bool) (bound : ℕ) (more : (n : ℕ) (item : RecordValue) → n < bound → r n ≡ Some item → s n ≡ Some item)
-    (bodies : (at : Address) → number_of at < bound → has at.file ≡ true → other at.file ≡ true) where
+    (bodies : (at : Address) → number_of at < bound → has (file_at at) ≡ true → other (file_at at) ≡ true) where
   within-kept : (m : ℕ) (naming at : Address) → number_of naming ≤ bound → bad_within m r has naming at ≡ None → bad_within m s other naming at ≡ None
   within-kept zero naming at le none = none
   within-kept (suc m) naming at le none =
-      let c = cond-none (ltb (number_of at) (number_of naming) && has at.file) (bad_branch (bad_within m r has) at (branch_of (r (number_of at)))) (place_of naming) none in
-      let p = and_parts (ltb (number_of at) (number_of naming)) (has at.file) c.0 in
+      let c = cond-none (ltb (number_of at) (number_of naming) && has (file_at at)) (bad_branch (bad_within m r has) at (branch_of (r (number_of at)))) (place_of naming) none in
+      let p = and_parts (ltb (number_of at) (number_of naming)) (has (file_at at)) c.0 in
       let lt : number_of at < number_of naming = ltb-true (number_of at) (number_of naming) p.0 in
       let below : number_of at < bound = omega (arith, lt, le) in
       let here = bad_branch (bad_within m s other) at (branch_of (s (number_of at))) in
-      ap (λ (b : Bool). cond (b && other at.file) here (Some (place_of naming))) p.0
+      ap (λ (b : Bool). cond (b && other (file_at at)) here (Some (place_of naming))) p.0
       ∙ ap (λ (b : Bool). cond b here (Some (place_of naming))) (bodies at below p.1)
       ∙ record-kept (bad_within m r has) (bad_within m s other) at (λ child. within-kept m at child (omega (arith, below))) (r (number_of at)) (s (number_of at)) (λ item. more (number_of at) item below) c.1
 
@@ -127,10 +127,10 @@ module _ (a b : Files) (file end back : ℕ) (own : take end (bytes_of a (body_o
   record-more : (n : ℕ) (item : RecordValue) → n < number_of root → records_upto b file end n ≡ Some item → records_upto a file end n ≡ Some item
   record-more n item lt is = body-more (n / 2 ^ 64) (n % 2 ^ 64) item (omega (arith, lt)) is
 
-  has-more : (at : Address) → number_of at < number_of root → has_body b at.file ≡ true → has_body a at.file ≡ true
-  has-more at lt has = elim (cases_eq at.file file) [
+  has-more : (at : Address) → number_of at < number_of root → has_body b (file_at at) ≡ true → has_body a (file_at at) ≡ true
+  has-more at lt has = elim (cases_eq (file_at at) file) [
     | inl is ↦ subst (λ (k : ℕ). has_body a k ≡ true) (sym is) there
-    | inr apart ↦ ap (λ (c : Content). is_some c) (beside at.file (omega (arith, lt)) apart has) ∙ has
+    | inr apart ↦ ap (λ (c : Content). is_some c) (beside (file_at at) (omega (arith, lt)) apart has) ∙ has
   ]
 
   abbrev named : ℕ → Rooted → Newest

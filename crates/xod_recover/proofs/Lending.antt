@@ -5,7 +5,6 @@ use Rattle.std.specs.List.{All, filter}
 use Rattle.std.specs.FinMap.{get, keys}
 use Rattle.std.proofs.lemmas.Bool.{eqb-true}
 use Rattle.std.proofs.lemmas.List.Elements.{All-filter}
-use Rattle.std.proofs.lemmas.Nat.{div-mul-add}
 use Rattle.xod_block.specs.declared.address.Address.{Address}
 use Rattle.xod_block.specs.Addresses.{number_of}
 use Rattle.xod_block.specs.Bodies.{Bodies, records_of}
@@ -22,7 +21,7 @@ use Rattle.xod_recover.specs.Check.{has_body, records_upto}
 use Rattle.xod_recover.specs.Cuts.{fitting, ended_by}
 use Rattle.xod_recover.specs.Frames.{StandInBodies, lists_body}
 use Rattle.xod_recover.specs.Listings.{is_body}
-use Rattle.xod_recover.specs.Walks.{bad_trees}
+use Rattle.xod_recover.specs.Walks.{file_at, bad_trees}
 use Rattle.xod_recover.proofs.Cutting.{records_of-cut}
 use Rattle.xod_recover.proofs.Listing.{listed, listed_at}
 
@@ -108,9 +107,8 @@ module _ (files : Files) (numbers : List ℕ) (are : numbers ≡ keys files) whe
     -- records stand in files that are there
     pub lent-stands : StandInBodies (ended_by (records_of (lent_bodies lent)) file end) (lists_body numbers)
     lent-stands at fits some =
-        let number : number_of at / 2 ^ 64 ≡ at.file = div-mul-add at.file (2 ^ 64) at.at fits in
         let there : IsSome (records_of (lent_bodies lent) (number_of at)) = ended_by-some (records_of (lent_bodies lent)) file end (number_of at) some in
-        let body = ap (λ (f : Files). bytes_of f (body_of at.file)) lent_is ∙ lent-body bodies bodies_are at.file in
-        let bytes : IsSome (record_in (drop (number_of at % 2 ^ 64) (bytes_of files (body_of at.file)))) =
-        subst (λ (l : List ℕ). IsSome (record_in (drop (number_of at % 2 ^ 64) l))) (ap (λ (f : ℕ). bytes_of lent (body_of f)) number ∙ body) there in
-        lists-has at.file ∙ body-there (get files (body_of at.file)) (number_of at % 2 ^ 64) bytes
+        let body = ap (λ (f : Files). bytes_of f (body_of (file_at at))) lent_is ∙ lent-body bodies bodies_are (file_at at) in
+        let bytes : IsSome (record_in (drop (number_of at % 2 ^ 64) (bytes_of files (body_of (file_at at))))) =
+        subst (λ (l : List ℕ). IsSome (record_in (drop (number_of at % 2 ^ 64) l))) body there in
+        lists-has (file_at at) ∙ body-there (get files (body_of (file_at at))) (number_of at % 2 ^ 64) bytes

@@ -9,7 +9,7 @@ use Rattle.xod_block.specs.declared.log_record.LogRecord.TheVariants as written
 use Rattle.xod_block.specs.Reading.{◌>>=◌, links_in, record_at}
 use Rattle.xod_block.specs.Records.{Link, RecordValue, Leaf, Node, Root, rise}
 use Rattle.xod_block.specs.Seen.{seen, HasSpelling}
-use Rattle.xod_root.specs.Roots.{Roots, root_in}
+use Rattle.xod_root.specs.Roots.{Roots, root_in, root_record}
 use Rattle.xod_block.proofs.CallerLemmas.{length-links_bytes}
 use Rattle.std.proofs.lemmas.Bool.{ne_eqb}
 use Rattle.xod_root.proofs.CallerLemmas.{from_entries-entries, rise-sorted}
@@ -47,6 +47,18 @@ rooted_by-some (written.Root number trees) commit roots has e =
     let roots_are : roots ≡ from_entries (links_in trees.now) = ap (λ (x : ℕ × Roots). x.1) same in
     let links_are : entries roots ≡ links_in trees.now = ap entries roots_are ∙ entries-from_entries (links_in trees.now) has.fits.rising in
     sym (ap (λ (l : List Link). given l commit) links_are ∙ ap (given (links_in trees.now)) commit_is)
+
+-- the record that lists what was read of it
+pub root_record-seen : (item : LogRecord) (commit : ℕ) (roots : Roots) → HasSpelling item → Some (commit, roots) ≡ root_in (seen item) → root_record commit roots ≡ seen item
+root_record-seen (written.Leaf key value) commit roots has e = absurd cc
+root_record-seen (written.Node key value children) commit roots has e = absurd cc
+root_record-seen (written.Root number trees) commit roots has e =
+    let read : ℕ × Roots = (commit, roots) in
+    let same : read ≡ (number, from_entries (links_in trees.now)) = cc e in
+    let commit_is : commit ≡ number = ap (λ (x : ℕ × Roots). x.0) same in
+    let roots_are : roots ≡ from_entries (links_in trees.now) = ap (λ (x : ℕ × Roots). x.1) same in
+    let links_are : entries roots ≡ links_in trees.now = ap entries roots_are ∙ entries-from_entries (links_in trees.now) has.fits.rising in
+    ap (λ (n : ℕ). Root n (entries roots)) commit_is ∙ ap (Root number) links_are
 
 -- with a number that no tree has it is none, and else this root
 pub rooted_by-other : (item : LogRecord) (commit : ℕ) (roots : Roots) (links : List Link) → HasSpelling item → Some (commit, roots) ≡ root_in (seen item) → links ≡ entries roots → are_trees links ≡ false → None ≡ rooted_by (seen item)

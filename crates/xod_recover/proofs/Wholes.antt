@@ -14,7 +14,7 @@ use Rattle.xod_trie.specs.Branches.{HasChild, branch_of}
 use Rattle.xod_trie.specs.Damage.{Names, IsReached, AtRoot, Below}
 use Rattle.xod_trie.proofs.CallerLemmas.{map-up, named-has, no_branch-map}
 use Rattle.xod_recover.specs.Frames.{bad_below}
-use Rattle.xod_recover.specs.Walks.{or_else, first_bad, bad_branch, bad_under}
+use Rattle.xod_recover.specs.Walks.{file_at, or_else, first_bad, bad_branch, bad_under}
 use Rattle.xod_recover.specs.Whole.{IsWhole}
 use Rattle.xod_recover.proofs.BadLemmas.{bad_under-step, bad_under-below}
 
@@ -52,15 +52,15 @@ module _ (records : RecordsAt) (has_body : ℕ → Bool) where
   -- what it says that nothing is bad
   record Clean (naming at : Address) : Type 0 where
     pub lower : number_of at < number_of naming
-    pub body : has_body at.file ≡ true
+    pub body : has_body (file_at at) ≡ true
     pub branch : Branch
     pub is : branch_of (records (number_of at)) ≡ Some branch
     pub children : first_bad (bad_under records has_body at) branch.children ≡ None
 
   clean : (naming at : Address) → bad_under records has_body naming at ≡ None → Clean naming at
   clean naming at none =
-      let c = cond_none (ltb (number_of at) (number_of naming) && has_body at.file) (bad_below records has_body at) (place_of naming) (sym (bad_under-step records has_body naming at) ∙ none) in
-      let p = and_parts (ltb (number_of at) (number_of naming)) (has_body at.file) c.0 in
+      let c = cond_none (ltb (number_of at) (number_of naming) && has_body (file_at at)) (bad_below records has_body at) (place_of naming) (sym (bad_under-step records has_body naming at) ∙ none) in
+      let p = and_parts (ltb (number_of at) (number_of naming)) (has_body (file_at at)) c.0 in
       let b = a_branch (bad_under records has_body) at (branch_of (records (number_of at))) c.1 in
       record { lower = ltb-true (number_of at) (number_of naming) p.0; body = p.1; branch = b.0; is = b.1; children = b.2 }
 

@@ -9,7 +9,7 @@ use Rattle.xod_block.specs.Maps.{RecordsAt}
 use Rattle.xod_block.specs.Records.{Link}
 use Rattle.xod_trie.specs.Branches.{branch_of}
 use Rattle.xod_log.specs.Ends.{body_of}
-use Rattle.xod_recover.specs.Walks.{first_bad, bad_branch, bad_under}
+use Rattle.xod_recover.specs.Walks.{file_at, first_bad, bad_branch, bad_under}
 
 -- a list of volume files has the body of a log file
 abbrev pub lists_body : List ℕ → ℕ → Bool
@@ -17,7 +17,7 @@ lists_body numbers file = list_any (λ other. other == body_of file) numbers
 
 -- records stand only in log files that have a body
 abbrev pub StandInBodies : RecordsAt → (ℕ → Bool) → Type 0
-StandInBodies records has_body = (at : Address) → at.at < 2 ^ 64 → IsSome (records (number_of at)) → has_body at.file ≡ true
+StandInBodies records has_body = (at : Address) → at.at < 2 ^ 64 → IsSome (records (number_of at)) → has_body (file_at at) ≡ true
 
 -- the first bad place below an address, whatever names it
 abbrev pub bad_below : RecordsAt → (ℕ → Bool) → Address → Option Place

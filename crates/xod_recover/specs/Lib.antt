@@ -1,14 +1,19 @@
 pub mod Check
 pub mod CutLaws
 pub mod Cuts
+pub mod Emptied
 pub mod Errors
 pub mod Found
 pub mod Frames
 pub mod Images
+pub mod Keeping
 pub mod Listings
 pub mod Newest
 pub mod Opened
 pub mod Reads
+pub mod Recovers
+pub mod Rooted
+pub mod Since
 pub mod Steps
 pub mod Stores
 pub mod Tails
@@ -16,3 +21,4 @@ pub mod Uses
 pub mod Walks
 pub mod Ways
 pub mod Whole
+pub mod Writes

@@ -53,3 +53,14 @@ pub record IsNearBut (newest : Newest) (above : ℕ) (files left : Files) : Type
 
 abbrev pub AllNearBut : Newest → ℕ → Files → (Files → Type 0) → Type 0
 AllNearBut newest above files images = (left : Files) → images left → IsNearBut newest above files left
+
+-- each of these images is near, and uses no log file above the one found at all
+abbrev pub AllNearAsFound : Newest → Files → (Files → Type 0) → Type 0
+AllNearAsFound newest files images = AllNearBut newest newest.file files images
+
+-- Reads find both volume files of the next log file, which images may use.
+pub record MayUseNext (newest : Newest) (files : Files) (images : Files → Type 0) : Type 0 where
+  pub low : newest.file < last_file
+  pub has_body : IsSome (get files (body_of (suc newest.file)))
+  pub has_ends : IsSome (get files (ends_of (suc newest.file)))
+  pub near : AllNearBut newest (suc newest.file) files images

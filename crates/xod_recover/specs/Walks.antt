@@ -1,5 +1,6 @@
 -- The first bad place on a walk over a trie: each record before its children, and these by rising byte.
-use Rattle.std.specs.Prelude.{ℕ, zero, suc, Bool, ◌&&◌, nat_lt, if◌then◌else◌, List, [], ◌∷◌, Option, Some, None}
+use Rattle.std.specs.Prelude.{ℕ, ◌^◌, ◌/◌, zero, suc, Bool, ◌&&◌, nat_lt, if◌then◌else◌, List, [], ◌∷◌, Option, Some, None}
+use Rattle.std.specs.List.{list_all}
 use Rattle.xod_base.specs.declared.causes.Place.{Place}
 use Rattle.xod_block.specs.declared.address.Address.{Address}
 use Rattle.xod_block.specs.Addresses.{number_of}
@@ -24,11 +25,15 @@ abbrev pub bad_branch : (Address → Address → Option Place) → Address → O
 bad_branch bad at None = Some (place_of at)
 bad_branch bad at (Some branch) = first_bad (bad at) branch.children
 
--- What a record names: where it does not stand below that record, or its file has no body, the record is the place.
+-- the log file in which the number of an address stands
+abbrev pub file_at : Address → ℕ
+file_at at = number_of at / 2 ^ 64
+
+-- What a record names: where it does not stand below that record, or its log file has no body, the record is the place.
 abbrev pub bad_within : ℕ → RecordsAt → (ℕ → Bool) → Address → Address → Option Place
 bad_within zero records has_body naming at = Some (place_of naming)
 bad_within (suc depth) records has_body naming at =
-    if nat_lt (number_of at) (number_of naming) && has_body at.file
+    if nat_lt (number_of at) (number_of naming) && has_body (file_at at)
     then bad_branch (bad_within depth records has_body) at (branch_of (records (number_of at)))
     else Some (place_of naming)
 
@@ -39,3 +44,7 @@ bad_under records has_body naming at = bad_within (suc (number_of naming)) recor
 -- of all trees that a root names, in their order
 abbrev pub bad_trees : RecordsAt → (ℕ → Bool) → Address → List Link → Option Place
 bad_trees records has_body root trees = first_bad (bad_under records has_body root) trees
+
+-- each tree that a root names begins before the root does
+abbrev pub are_below : Address → List Link → Bool
+are_below root trees = list_all (λ tree. nat_lt (number_of tree.1) (number_of root)) trees

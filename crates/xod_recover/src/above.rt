@@ -11,8 +11,9 @@ ghost use Rattle.xod_volume.specs.Leases.{Stays};
 ghost use Rattle.xod_log.specs.Ends.{body_of, ends_of};
 ghost use Rattle.xod_recover.specs.Found.{newest_of};
 ghost use Rattle.xod_recover.specs.Images.{Settled, Stores};
+ghost use Rattle.xod_recover.specs.Keeping.{KeepsFound};
 ghost use Rattle.xod_recover.specs.Stores.{stored_in};
-ghost use Rattle.xod_recover.specs.Tails.{AllNear, AllNearBut, IsFoundIn};
+ghost use Rattle.xod_recover.specs.Tails.{AllNear, AllNearAsFound, AllNearBut, IsFoundIn};
 
 use crate::enter::body_file;
 use crate::newest::Found;
@@ -37,6 +38,8 @@ pub fn clear_above<V: Volume>(volume: &mut V, found: &Found, other: u32) -> Resu
         (body_of other) ≡ Some []) }
     ensures empty_ends { IsTrue (V.tells volume.old)
         → OnOk result (get (V.files volume.new) (ends_of other) ≡ Some []) }
+    ensures keeps { IsTrue (V.tells volume.old)
+        → KeepsFound (newest_of found.now) (V.files volume.old) (V.files volume.new) }
     ensures others { IsTrue (V.tells volume.old) → (file : ℕ) → file ≢ body_of other
         → file ≢ ends_of other
         → get (V.files volume.new) file ≡ get (V.files volume.old) file }
@@ -59,6 +62,11 @@ pub fn clear_above<V: Volume>(volume: &mut V, found: &Found, other: u32) -> Resu
         (V.may_leave volume.old (V.moment volume.old))
         → OnOk result (AllNear (newest_of found.now) (V.files volume.new) (V.may_leave volume.new
         (V.moment volume.new))) }
+    ensures as_found { IsTrue (V.tells volume.old)
+        → AllNearBut (newest_of found.now) other (V.files volume.old)
+        (V.may_leave volume.old (V.moment volume.old))
+        → OnOk result (AllNearAsFound (newest_of found.now) (V.files volume.new)
+        (V.may_leave volume.new (V.moment volume.new))) }
     ensures settled { IsTrue (V.tells volume.old)
         → Settled (V.files volume.old) (V.may_leave volume.old (V.moment volume.old))
         → OnOk result (Settled (V.files volume.new) (V.may_leave volume.new

@@ -1,5 +1,5 @@
 //! Bytes of a volume's files, whole or in part.
-ghost use Rattle.std.specs.Prelude.{◌≡◌, length, take, drop, IfOk, IsErrOf, IsSome, IsTrue};
+ghost use Rattle.std.specs.Prelude.{◌≡◌, length, take, drop, IfOk, OnOk, IsErrOf, IsSome, IsTrue};
 ghost use Rattle.std.specs.FinMap.{get};
 ghost use Rattle.xod_base.specs.Causes.{Rose};
 ghost use Rattle.xod_volume.specs.Files.{bytes_of, size_of};
@@ -31,6 +31,9 @@ pub fn read_part<V: Volume>(
         bytes ≡ take count (drop at (bytes_of (V.files volume.old) file))) }
     ensures failed { IsErrOf result VolumeError.Failed
         → Rose (V.faults volume.old) (V.faults volume.new) }
+    ensures unfailed { OnOk result (V.faults volume.new ≡ V.faults volume.old) }
+    ensures memory { IsErrOf result VolumeError.Memory
+        → V.faults volume.new ≡ V.faults volume.old }
     ensures reads { OnlyReads V.tells V.files V.moment V.may_leave V.leases V.refs V.faults
         volume.old volume.new }
 {
@@ -51,6 +54,9 @@ pub fn size<V: Volume>(volume: &mut V, file: u64) -> Result<u64, VolumeError>
         n ≡ size_of (V.files volume.old) file) }
     ensures failed { IsErrOf result VolumeError.Failed
         → Rose (V.faults volume.old) (V.faults volume.new) }
+    ensures unfailed { OnOk result (V.faults volume.new ≡ V.faults volume.old) }
+    ensures memory { IsErrOf result VolumeError.Memory
+        → V.faults volume.new ≡ V.faults volume.old }
     ensures reads { OnlyReads V.tells V.files V.moment V.may_leave V.leases V.refs V.faults
         volume.old volume.new }
 {
@@ -67,6 +73,9 @@ pub fn read_whole<V: Volume>(alloc: Global, volume: &mut V, file: u64) -> Result
         bytes ≡ bytes_of (V.files volume.old) file) }
     ensures failed { IsErrOf result VolumeError.Failed
         → Rose (V.faults volume.old) (V.faults volume.new) }
+    ensures unfailed { OnOk result (V.faults volume.new ≡ V.faults volume.old) }
+    ensures memory { IsErrOf result VolumeError.Memory
+        → V.faults volume.new ≡ V.faults volume.old }
     ensures reads { OnlyReads V.tells V.files V.moment V.may_leave V.leases V.refs V.faults
         volume.old volume.new }
 {

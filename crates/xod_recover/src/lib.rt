@@ -1,13 +1,14 @@
 //! Opening a store: which root is the newest that is durable, and whether all that it reaches is
 //! there.
 //!
-//! `find_newest` only reads. What it decides stands in `specs/Check.antt`: the newest root of good
-//! files, or the first bad place. `cut_tail` and `clear_above` are what an opening writes then, and
-//! `specs/Tails.antt` has what a crash may leave of it.
+//! `recover` is the opening. Its first part is `find_newest`, which only reads. What that decides
+//! stands in `specs/Check.antt`: the newest root of good files, or the first bad place. Then
+//! `clear_above` and `cut_tail` write, and `specs/Tails.antt` has what a crash may leave of it.
 #![tactic(auto)]
 
 mod above;
 mod device;
+mod emptying;
 mod ends;
 mod enter;
 mod error;
@@ -15,8 +16,10 @@ mod laws;
 mod near;
 mod newest;
 mod reach;
+mod reopen;
 mod root;
 mod sealed;
+mod since;
 mod tail;
 mod used;
 mod walk;
@@ -29,4 +32,6 @@ pub use laws::{
 };
 pub use near::{near_images_store_what_was_found, settled_volumes_are_near};
 pub use newest::{Found, find_newest};
+pub use reopen::recover;
+pub use since::{what_is_stored_begins, what_was_stored_goes_on};
 pub use tail::cut_tail;

@@ -1,7 +1,7 @@
 //! The newest root of a store that is durable.
 //!
 //! Each step is a function: it answers the first bad place, or goes on to the next step.
-ghost use Rattle.std.specs.Prelude.{◌≡◌, ◌<◌, ◌≤◌, ◌+◌, ◌-◌, ◌*◌, ◌^◌, pred, Ok, Err, Some, IfOk, IsErrOf, IsSome, IsTrue};
+ghost use Rattle.std.specs.Prelude.{◌≡◌, ◌<◌, ◌≤◌, ◌+◌, ◌-◌, ◌*◌, ◌^◌, true, pred, Ok, Err, Some, IfOk, IfSome, OnOk, IsErrOf, IsSome, IsTrue};
 ghost use Rattle.std.specs.Option.{option_map};
 ghost use Rattle.std.specs.FinMap.{entries, get, keys};
 ghost use Rattle.xod_base.specs.Causes.{Rose};
@@ -10,9 +10,10 @@ ghost use Rattle.xod_volume.specs.Files.{bytes_of, size_of};
 ghost use Rattle.xod_volume.specs.declared.volume.VolumeError.{VolumeError};
 ghost use Rattle.xod_log.specs.Ends.{body_of, ends_of, numbers, numbers_at};
 ghost use Rattle.xod_recover.specs.declared.error.OpenError.{OpenError};
-ghost use Rattle.xod_recover.specs.Check.{check, no_newest, rooted_in};
-ghost use Rattle.xod_recover.specs.Found.{newest_of};
+ghost use Rattle.xod_recover.specs.Check.{are_trees, check, no_newest, rooted_in};
+ghost use Rattle.xod_recover.specs.Found.{HasRoot, IsRooted, newest_of};
 ghost use Rattle.xod_recover.specs.Reads.{OnlyReads};
+ghost use Rattle.xod_recover.specs.Rooted.{SpellsRoot};
 ghost use Rattle.xod_recover.specs.Steps.{by_back, by_body, by_root, root_bytes};
 
 use crate::device::{read_part, size};
@@ -72,8 +73,15 @@ fn root_before<V: Volume>(
     ensures root { IsTrue (V.tells volume.old) → IfOk result (λ found.
         option_map (λ root. (root.0, entries root.1)) found
         ≡ rooted_in (root_bytes (V.files volume.old) marked)) }
+    ensures numbered { IfOk result (λ found. IfSome found (λ root.
+        are_trees (entries root.1) ≡ true)) }
+    ensures spelled { IsTrue (V.tells volume.old) → IfOk result (λ found. IfSome found (λ root.
+        SpellsRoot root.0 root.1 (root_bytes (V.files volume.old) marked))) }
     ensures failed { IsErrOf result VolumeError.Failed
         → Rose (V.faults volume.old) (V.faults volume.new) }
+    ensures unfailed { OnOk result (V.faults volume.new ≡ V.faults volume.old) }
+    ensures memory { IsErrOf result VolumeError.Memory
+        → V.faults volume.new ≡ V.faults volume.old }
     ensures reads { OnlyReads V.tells V.files V.moment V.may_leave V.leases V.refs V.faults
         volume.old volume.new }
 {
@@ -100,6 +108,11 @@ fn judge_trees<V: Volume>(
     rooted: (u64, RootList),
 ) -> Result<Found, OpenError>
     requires listed { IsTrue (V.tells volume.old) → numbers.now ≡ keys (V.files volume.old) }
+    requires long { IsTrue (V.tells volume.old)
+        → marked.end ≤ size_of (V.files volume.old) (body_of marked.file) }
+    requires numbered { are_trees (entries rooted.1) ≡ true }
+    requires spelled { IsTrue (V.tells volume.old)
+        → SpellsRoot rooted.0 rooted.1 (root_bytes (V.files volume.old) marked) }
     requires back { marked.back ≤ marked.end }
     requires room { 13 * (marked.mark + 2) < 2 ^ 64 }
     ensures found { IsTrue (V.tells volume.old) → IfOk result (λ found.
@@ -110,7 +123,12 @@ fn judge_trees<V: Volume>(
         → by_root (V.files volume.old) marked (Some (rooted.0, entries rooted.1)) ≡ Err place }
     ensures device_only_after_a_fault { result ≡ Err OpenError.Device
         → Rose (V.faults volume.old) (V.faults volume.new) }
+    ensures unfailed { OnOk result (V.faults volume.new ≡ V.faults volume.old) }
+    ensures memory { result ≡ Err OpenError.Memory → V.faults volume.new ≡ V.faults volume.old }
     ensures room { IfOk result (λ found. 13 * (found.marks + 1) < 2 ^ 64) }
+    ensures rooted { IfOk result IsRooted }
+    ensures root { IsTrue (V.tells volume.old) → IfOk result (λ found.
+        HasRoot found (V.files volume.old)) }
     ensures reads { OnlyReads V.tells V.files V.moment V.may_leave V.leases V.refs V.faults
         volume.old volume.new }
 {
@@ -153,7 +171,12 @@ fn judge_root<V: Volume>(
         ≡ Err place }
     ensures device_only_after_a_fault { result ≡ Err OpenError.Device
         → Rose (V.faults volume.old) (V.faults volume.new) }
+    ensures unfailed { OnOk result (V.faults volume.new ≡ V.faults volume.old) }
+    ensures memory { result ≡ Err OpenError.Memory → V.faults volume.new ≡ V.faults volume.old }
     ensures room { IfOk result (λ found. 13 * (found.marks + 1) < 2 ^ 64) }
+    ensures rooted { IfOk result IsRooted }
+    ensures root { IsTrue (V.tells volume.old) → IfOk result (λ found.
+        HasRoot found (V.files volume.old)) }
     ensures reads { OnlyReads V.tells V.files V.moment V.may_leave V.leases V.refs V.faults
         volume.old volume.new }
 {
@@ -186,7 +209,12 @@ fn judge_back<V: Volume>(
         → by_back (V.files volume.old) marked ≡ Err place }
     ensures device_only_after_a_fault { result ≡ Err OpenError.Device
         → Rose (V.faults volume.old) (V.faults volume.new) }
+    ensures unfailed { OnOk result (V.faults volume.new ≡ V.faults volume.old) }
+    ensures memory { result ≡ Err OpenError.Memory → V.faults volume.new ≡ V.faults volume.old }
     ensures room { IfOk result (λ found. 13 * (found.marks + 1) < 2 ^ 64) }
+    ensures rooted { IfOk result IsRooted }
+    ensures root { IsTrue (V.tells volume.old) → IfOk result (λ found.
+        HasRoot found (V.files volume.old)) }
     ensures reads { OnlyReads V.tells V.files V.moment V.may_leave V.leases V.refs V.faults
         volume.old volume.new }
 {
@@ -217,7 +245,12 @@ fn judge_body<V: Volume>(
         → by_body (V.files volume.old) marked ≡ Err place }
     ensures device_only_after_a_fault { result ≡ Err OpenError.Device
         → Rose (V.faults volume.old) (V.faults volume.new) }
+    ensures unfailed { OnOk result (V.faults volume.new ≡ V.faults volume.old) }
+    ensures memory { result ≡ Err OpenError.Memory → V.faults volume.new ≡ V.faults volume.old }
     ensures room { IfOk result (λ found. 13 * (found.marks + 1) < 2 ^ 64) }
+    ensures rooted { IfOk result IsRooted }
+    ensures root { IsTrue (V.tells volume.old) → IfOk result (λ found.
+        HasRoot found (V.files volume.old)) }
     ensures reads { OnlyReads V.tells V.files V.moment V.may_leave V.leases V.refs V.faults
         volume.old volume.new }
 {
@@ -245,7 +278,12 @@ pub fn find_newest<V: Volume>(alloc: Global, volume: &mut V) -> Result<Found, Op
         ≡ numbers found.end found.back) }
     ensures device_only_after_a_fault { result ≡ Err OpenError.Device
         → Rose (V.faults volume.old) (V.faults volume.new) }
+    ensures unfailed { OnOk result (V.faults volume.new ≡ V.faults volume.old) }
+    ensures memory { result ≡ Err OpenError.Memory → V.faults volume.new ≡ V.faults volume.old }
     ensures room { IfOk result (λ found. 13 * (found.marks + 1) < 2 ^ 64) }
+    ensures rooted { IfOk result IsRooted }
+    ensures root { IsTrue (V.tells volume.old) → IfOk result (λ found. 0 < found.marks
+        → HasRoot found (V.files volume.old)) }
     ensures reads { OnlyReads V.tells V.files V.moment V.may_leave V.leases V.refs V.faults
         volume.old volume.new }
 {

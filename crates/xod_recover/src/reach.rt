@@ -1,5 +1,5 @@
 //! Whether all that a root names is there, over the files of a volume.
-ghost use Rattle.std.specs.Prelude.{◌≡◌, None, Some, IfOk, OnOk, IsTrue};
+ghost use Rattle.std.specs.Prelude.{◌≡◌, true, None, Some, IfOk, OnOk, IsTrue};
 ghost use Rattle.std.specs.List.{filter};
 ghost use Rattle.std.specs.FinMap.{keys};
 ghost use Rattle.xod_base.specs.Causes.{Rose};
@@ -12,7 +12,7 @@ ghost use Rattle.xod_recover.specs.Frames.{StandInBodies, lists_body};
 ghost use Rattle.xod_recover.specs.Listings.{is_body};
 ghost use Rattle.xod_recover.specs.Reads.{OnlyReads};
 ghost use Rattle.xod_recover.specs.Steps.{bad_reached};
-ghost use Rattle.xod_recover.specs.Walks.{bad_trees};
+ghost use Rattle.xod_recover.specs.Walks.{are_below, bad_trees};
 
 use crate::error::OpenError;
 use crate::sealed::Sealed;
@@ -54,6 +54,7 @@ fn walk_lease<L: Lease>(
         → (place : Place) → result ≡ Err (read.Damaged place)
         → bad_trees (lent_upto (L.lent lease.old) root.file end) (lists_body numbers.now)
         root trees.now ≡ Some place }
+    ensures below { OnOk result (are_below root trees.now ≡ true) }
     ensures counts { CountsFaults (L.faults lease.old) (L.faults lease.new) result }
     ensures list_same { L.list lease.new ≡ L.list lease.old }
 {
@@ -83,8 +84,11 @@ pub fn walk_root<V: Volume>(
     ensures damaged { IsTrue (V.tells volume.old) → (place : Place)
         → result ≡ Err (OpenError.Damaged place)
         → bad_reached (V.files volume.old) root end trees.now ≡ Some place }
+    ensures below { OnOk result (are_below root trees.now ≡ true) }
     ensures device_only_after_a_fault { result ≡ Err OpenError.Device
         → Rose (V.faults volume.old) (V.faults volume.new) }
+    ensures unfailed { OnOk result (V.faults volume.new ≡ V.faults volume.old) }
+    ensures memory { result ≡ Err OpenError.Memory → V.faults volume.new ≡ V.faults volume.old }
     ensures reads { OnlyReads V.tells V.files V.moment V.may_leave V.leases V.refs V.faults
         volume.old volume.new }
 {

@@ -11,9 +11,9 @@ ghost use Rattle.xod_volume.specs.Crash.{OnFile, OnBytes, Torn, Shortened, Passe
 ghost use Rattle.xod_volume.specs.Leases.{Stays};
 ghost use Rattle.xod_log.specs.Ends.{body_of, ends_of};
 ghost use Rattle.xod_log.specs.Standing.{AsOpened};
-ghost use Rattle.xod_recover.specs.Check.{check};
 ghost use Rattle.xod_recover.specs.Found.{newest_of};
 ghost use Rattle.xod_recover.specs.Images.{AllStore, Settled, Stores};
+ghost use Rattle.xod_recover.specs.Keeping.{KeepsFound};
 ghost use Rattle.xod_recover.specs.Stores.{stored_in};
 ghost use Rattle.xod_recover.specs.Tails.{AllNear, IsFoundIn};
 
@@ -31,6 +31,8 @@ pub fn cut_synced<V: Volume>(volume: &mut V, file: u64, kept: u64) -> Result<(),
         ≡ insert (V.files volume.old) file (take kept (bytes_of (V.files volume.old) file))) }
     ensures others { IsTrue (V.tells volume.old) → (other : ℕ) → other ≢ file
         → get (V.files volume.new) other ≡ get (V.files volume.old) other }
+    ensures reads { IsTrue (V.tells volume.old) → OnFile file (OnBytes (Shortened kept))
+        (V.files volume.old) (V.files volume.new) }
     ensures failed { IsErr result → Rose (V.faults volume.old) (V.faults volume.new) }
     ensures unfailed { OnOk result (V.faults volume.new ≡ V.faults volume.old) }
     ensures stays { Stays (V.tells volume.old) (V.tells volume.new) (V.leases volume.old)
@@ -61,6 +63,8 @@ fn write_synced<V: Volume>(volume: &mut V, file: u64, at: u64, bytes: &[u8]) -> 
         (overwritten (bytes_of (V.files volume.old) file) at bytes.now)) }
     ensures others { IsTrue (V.tells volume.old) → (other : ℕ) → other ≢ file
         → get (V.files volume.new) other ≡ get (V.files volume.old) other }
+    ensures reads { IsTrue (V.tells volume.old) → OnFile file (OnBytes (Torn at (length bytes.now)))
+        (V.files volume.old) (V.files volume.new) }
     ensures failed { IsErr result → Rose (V.faults volume.old) (V.faults volume.new) }
     ensures unfailed { OnOk result (V.faults volume.new ≡ V.faults volume.old) }
     ensures stays { Stays (V.tells volume.old) (V.tells volume.new) (V.leases volume.old)
@@ -92,8 +96,10 @@ pub fn cut_tail<V: Volume>(volume: &mut V, found: &Found) -> Result<(), Failed>
     ensures opened { IsTrue (V.tells volume.old) → OnOk result
         (AsOpened found.now.file found.now.end found.now.marks
         found.now.back (V.files volume.new) (V.may_leave volume.new (V.moment volume.new))) }
-    ensures decided { IsTrue (V.tells volume.old) → OnOk result (check (V.files volume.new)
-        ≡ check (V.files volume.old)) }
+    ensures keeps { IsTrue (V.tells volume.old)
+        → KeepsFound (newest_of found.now) (V.files volume.old) (V.files volume.new) }
+    ensures still_found { IsTrue (V.tells volume.old)
+        → OnOk result (IsFoundIn (newest_of found.now) (V.files volume.new)) }
     ensures others { IsTrue (V.tells volume.old) → (other : ℕ) → other ≢ body_of found.now.file
         → other ≢ ends_of found.now.file
         → get (V.files volume.new) other ≡ get (V.files volume.old) other }

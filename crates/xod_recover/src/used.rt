@@ -1,5 +1,5 @@
 //! Which log file is used last.
-ghost use Rattle.std.specs.Prelude.{◌≡◌, ◌<◌, ◌≤◌, ◌==◌, length, slice_index, Some, IfOk, IsErrOf, IsSome, IsTrue};
+ghost use Rattle.std.specs.Prelude.{◌≡◌, ◌<◌, ◌≤◌, ◌==◌, length, slice_index, Some, IfOk, OnOk, IsErrOf, IsSome, IsTrue};
 ghost use Rattle.std.specs.List.{list_any};
 ghost use Rattle.std.specs.FinMap.{get, keys};
 ghost use Rattle.xod_base.specs.Causes.{Rose};
@@ -22,7 +22,7 @@ pub fn ends_file(file: u32) -> u64
 }
 
 /// The log file whose body is a volume file.
-fn log_file_of(number: u64) -> Option<u32>
+pub fn log_file_of(number: u64) -> Option<u32>
     ensures { result ≡ log_file_of number }
 {
     if number % 2 == 0 && number / 2 <= u64::from(u32::MAX) {
@@ -33,7 +33,7 @@ fn log_file_of(number: u64) -> Option<u32>
 }
 
 /// Whether a volume file is listed.
-fn lists(numbers: &[u64], file: u64) -> bool
+pub fn lists(numbers: &[u64], file: u64) -> bool
     ensures { result ≡ list_any (λ other. other == file) numbers.now }
 {
     numbers.contains(&file)
@@ -53,6 +53,9 @@ fn used_at<V: Volume>(
         (Finds (V.files volume.old) (used_at (V.files volume.old) (Some file))) }
     ensures failed { IsErrOf result VolumeError.Failed
         → Rose (V.faults volume.old) (V.faults volume.new) }
+    ensures unfailed { OnOk result (V.faults volume.new ≡ V.faults volume.old) }
+    ensures memory { IsErrOf result VolumeError.Memory
+        → V.faults volume.new ≡ V.faults volume.old }
     ensures reads { OnlyReads V.tells V.files V.moment V.may_leave V.leases V.refs V.faults
         volume.old volume.new }
 {
@@ -80,6 +83,9 @@ fn used_by<V: Volume>(
         (used_at (V.files volume.old) (log_file_of (slice_index numbers.now index)))) }
     ensures failed { IsErrOf result VolumeError.Failed
         → Rose (V.faults volume.old) (V.faults volume.new) }
+    ensures unfailed { OnOk result (V.faults volume.new ≡ V.faults volume.old) }
+    ensures memory { IsErrOf result VolumeError.Memory
+        → V.faults volume.new ≡ V.faults volume.old }
     ensures reads { OnlyReads V.tells V.files V.moment V.may_leave V.leases V.refs V.faults
         volume.old volume.new }
 {
@@ -100,6 +106,9 @@ pub fn find_used<V: Volume>(
         (Finds (V.files volume.old) (greatest_used (V.files volume.old))) }
     ensures failed { IsErrOf result VolumeError.Failed
         → Rose (V.faults volume.old) (V.faults volume.new) }
+    ensures unfailed { OnOk result (V.faults volume.new ≡ V.faults volume.old) }
+    ensures memory { IsErrOf result VolumeError.Memory
+        → V.faults volume.new ≡ V.faults volume.old }
     ensures reads { OnlyReads V.tells V.files V.moment V.may_leave V.leases V.refs V.faults
         volume.old volume.new }
 {

@@ -2,14 +2,15 @@
 //!
 //! It goes down to the next child that is left, and keeps the records above on a stack of its own.
 //! What it walked to the end is not read again, so it reads each record once.
-ghost use Rattle.std.specs.Prelude.{◌≡◌, ◌++◌, ◌∷◌, [], ◌≤◌, ℕ, Bool, is_ok, if◌then◌else◌, length, Some, None, IsTrue, OnOk, IfSome, IfNone};
+ghost use Rattle.std.specs.Prelude.{◌≡◌, ◌++◌, ◌∷◌, [], ◌≤◌, nat_lt, true, ℕ, Bool, is_ok, if◌then◌else◌, length, Some, None, IsTrue, OnOk, IfSome, IfNone};
 ghost use Rattle.xod_base.specs.declared.causes.Place.{Place};
 ghost use Rattle.xod_base.specs.declared.causes.ReadError.TheVariants.{Damaged};
 ghost use Rattle.xod_base.specs.Views.{CountsFaults};
+ghost use Rattle.xod_block.specs.Addresses.{number_of};
 ghost use Rattle.xod_block.specs.Fetches.{Stays};
 ghost use Rattle.xod_block.specs.Maps.{RecordsAt};
 ghost use Rattle.xod_recover.specs.Frames.{AreClean, IsReady, StandInBodies, bad_below, lists_body};
-ghost use Rattle.xod_recover.specs.Walks.{bad_trees, bad_under};
+ghost use Rattle.xod_recover.specs.Walks.{are_below, bad_trees, bad_under};
 ghost use Rattle.xod_recover.specs.Ways.{Advances, IsLeft, left_of};
 
 use crate::enter::{enter, number_of};
@@ -131,6 +132,7 @@ fn walk_tree<F: Fetch>(
         walked.old
         → (place : Place) → result ≡ Err (Damaged place)
         → bad_under (F.records fetch.old) (lists_body numbers.now) naming at ≡ Some place }
+    ensures below { OnOk result (nat_lt (number_of at) (number_of naming) ≡ true) }
     ensures counts { CountsFaults (F.faults fetch.old) (F.faults fetch.new) result }
     ensures stays { Stays F.tells F.records F.refs F.faults fetch.old fetch.new }
 {
@@ -164,6 +166,7 @@ pub fn walk_trees<F: Fetch>(
         → StandInBodies (F.records fetch.old) (lists_body numbers.now)
         → (place : Place) → result ≡ Err (Damaged place)
         → bad_trees (F.records fetch.old) (lists_body numbers.now) root trees.now ≡ Some place }
+    ensures below { OnOk result (are_below root trees.now ≡ true) }
     ensures counts { CountsFaults (F.faults fetch.old) (F.faults fetch.new) result }
     ensures stays { Stays F.tells F.records F.refs F.faults fetch.old fetch.new }
 {

@@ -1,4 +1,4 @@
-use Rattle.std.proofs.Common.{◌≡◌, ℕ, [], take, Some, is_some, IsTrue, sym, ◌∙◌, ap}
+use Rattle.std.proofs.Common.{◌≡◌, ℕ, [], take, Some, is_some, IsTrue, sym, ◌∙◌, ap, arith}
 use mathlib.Core.Logic.{◌≢◌}
 use Rattle.std.specs.FinMap.{get, insert}
 use Rattle.xod_volume.specs.Files.{Files, bytes_of}
@@ -8,9 +8,10 @@ use Rattle.xod_log.specs.Standing.{IsDurablePair}
 use Rattle.xod_log.proofs.CallerLemmas.{files_apart, put_there, other_file}
 use Rattle.xod_recover.specs.Found.{newest_of}
 use Rattle.xod_recover.specs.Images.{Stores}
+use Rattle.xod_recover.specs.Keeping.{KeepsFound}
 use Rattle.xod_recover.specs.Stores.{stored_in}
 use Rattle.xod_recover.specs.Tails.{AllNearBut}
-use Rattle.xod_recover.proofs.Clearing.{ends_emptied, run_both, near_both, settled_but, settled_cleared, found_still, emptied_reads}
+use Rattle.xod_recover.proofs.Clearing.{ends_emptied, run_both, near_both, as_found_both, settled_but, settled_cleared, found_still, emptied_reads, keeps_one, keeps_both}
 use Rattle.xod_recover.proofs.CutReads.{still_durable}
 use Rattle.xod_recover.proofs.above.clear_above.Given.{Over}
 use Rattle.xod_recover.proofs.above.clear_above.Goals.{After-cut_synced, In_ok-cut_synced, After-cut_synced-2, In_ok-cut_synced-2}
@@ -151,3 +152,33 @@ pub returns-in_err-cut_synced-2-clause-others : goal.returns-in_err-cut_synced-2
 returns-in_err-cut_synced-2-clause-others g c told k not_body not_ends =
     let second = (goal.at.returns-in_err-cut_synced-2-clause-others g c).After-cut_synced-2 in
     second-others g second told k not_body ∙ first-others g (cut_first g (first_done g second)) told k not_ends
+
+-- ---- what was found is kept
+
+first-on : (g : Over) (c : After-cut_synced g) → IsTrue (g.V.Volume.tells c.args.volume.now) → OnFile (ends_of c.args.other) (OnBytes (Shortened 0)) (g.V.Volume.files c.args.volume.now) (g.V.Volume.files c.cut_synced.new.volume)
+first-on g c told = rw c.ends_file-ends.ensures at c.cut_synced.ensures.reads told
+
+second-on : (g : Over) (c : After-cut_synced-2 g) → IsTrue (g.V.Volume.tells c.args.volume.now) → OnFile (body_of c.args.other) (OnBytes (Shortened 0)) (g.V.Volume.files c.cut_synced.new.volume) (g.V.Volume.files c.cut_synced-2.new.volume)
+second-on g c told =
+    let told1 : IsTrue (g.V.Volume.tells c.cut_synced.new.volume) = rw c.cut_synced.ensures.stays.tells told in
+    rw c.body_file-body.ensures at c.cut_synced-2.ensures.reads told1
+
+both-kept : (g : Over) (c : After-cut_synced-2 g) → IsTrue (g.V.Volume.tells c.args.volume.now) → KeepsFound (newest_of c.args.found.now) (g.V.Volume.files c.args.volume.now) (g.V.Volume.files c.cut_synced-2.new.volume)
+both-kept g c told = keeps_both (newest_of c.args.found.now) _ (c.requires.was_found told) c.args.other c.requires.above (omega (arith, c.ranges.other)) _ _ (first-on g (cut_first g (first_done g c)) told) (second-on g c told)
+
+pub returns-in_err-cut_synced-clause-keeps : goal.returns-in_err-cut_synced-clause-keeps
+returns-in_err-cut_synced-clause-keeps g c told =
+    keeps_one (newest_of c.args.found.now) _ (c.requires.was_found told) c.args.other c.requires.above (omega (arith, c.ranges.other)) _ (first-on g (goal.at.returns-in_err-cut_synced-clause-keeps g c).After-cut_synced told)
+
+pub returns-in_err-cut_synced-2-clause-keeps : goal.returns-in_err-cut_synced-2-clause-keeps
+returns-in_err-cut_synced-2-clause-keeps g c told = both-kept g (goal.at.returns-in_err-cut_synced-2-clause-keeps g c).After-cut_synced-2 told
+
+pub returns-clause-keeps : goal.returns-clause-keeps
+returns-clause-keeps g c told = both-kept g (goal.at.returns-clause-keeps g c).After-cut_synced-2 told
+
+pub returns-clause-as_found : goal.returns-clause-as_found
+returns-clause-as_found g c told near =
+    let done = (goal.at.returns-clause-as_found g c).In_ok-cut_synced-2 in
+    let second = cut_second g done in
+    let before = first_done g second in
+    as_found_both (newest_of c.args.found.now) _ (c.requires.was_found told) c.args.other c.requires.above _ _ near _ _ (first-passes g (cut_first g before) told) (first-durable g before told) _ _ (second-passes g second told) _ (reads g done told)

@@ -20,9 +20,9 @@ returns-in-Ok-Some-clause-entered g c told stand =
 pub returns-in-Ok-None-clause-damaged : goal.returns-in-Ok-None-clause-damaged
 returns-in-Ok-None-clause-damaged g c told stand place e =
     let same : c.blamed.result ≡ place = cc e in
-    blamed-absent (g.F.Fetch.records c.args.fetch.now) (lists_body c.args.numbers.now) c.args.naming c.args.at place (c.is_below.ensures.0 c.if-not-is_below.false) (sym c.in-Ok-None.field-0-is ∙ c.in-Ok-None.ensures.exactly told) (sym same ∙ c.blamed.ensures)
+    blamed-absent (g.F.Fetch.records c.args.fetch.now) (lists_body c.args.numbers.now) c.args.naming c.args.at place c.number_of.ensures.place (c.is_below.ensures.0 c.if-not-is_below.false) (sym c.in-Ok-None.field-0-is ∙ c.in-Ok-None.ensures.exactly told) (sym same ∙ c.blamed.ensures)
 
 pub returns-in-Err-Damaged-clause-damaged : goal.returns-in-Err-Damaged-clause-damaged
 returns-in-Err-Damaged-clause-damaged g c told stand place e =
     let same : c.blamed-in-Err-Damaged.result ≡ place = cc e in
-    blamed-nothing (g.F.Fetch.records c.args.fetch.now) (lists_body c.args.numbers.now) c.args.naming c.args.at place (c.is_below.ensures.0 c.if-not-is_below.false) (c.in-Err-Damaged.ensures.damaged_only_without_a_record told c.in-Err-Damaged.field-0-0 (cc)) (sym same ∙ c.blamed-in-Err-Damaged.ensures)
+    blamed-nothing (g.F.Fetch.records c.args.fetch.now) (lists_body c.args.numbers.now) c.args.naming c.args.at place c.number_of.ensures.place (c.is_below.ensures.0 c.if-not-is_below.false) (c.in-Err-Damaged.ensures.damaged_only_without_a_record told c.in-Err-Damaged.field-0-0 (cc)) (sym same ∙ c.blamed-in-Err-Damaged.ensures)

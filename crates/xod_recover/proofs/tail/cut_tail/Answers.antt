@@ -10,10 +10,12 @@ use Rattle.xod_log.specs.Standing.{AsOpened}
 use Rattle.xod_log.proofs.CallerLemmas.{files_apart, put_there, other_file}
 use Rattle.xod_recover.specs.Found.{newest_of}
 use Rattle.xod_recover.specs.Images.{Stores}
+use Rattle.xod_recover.specs.Keeping.{KeepsFound}
 use Rattle.xod_recover.specs.Stores.{stored_in}
 use Rattle.xod_recover.specs.Tails.{AllNear}
 use Rattle.xod_recover.proofs.CutImages.{P, On, kept_within, file_long, cut_size, ends_cut, run_two, run_three, tail_stored}
-use Rattle.xod_recover.proofs.CutReads.{Reads, after_ends, after_body, reads_are, decided, opened_as, settled_near, settled_again, still_durable}
+use Rattle.xod_recover.proofs.CutKeeps.{first_keeps, second_keeps, third_keeps}
+use Rattle.xod_recover.proofs.CutReads.{Reads, after_ends, after_body, reads_are, still_found, opened_as, settled_near, settled_again, still_durable}
 use Rattle.xod_recover.proofs.tail.cut_tail.Given.{Over}
 use Rattle.xod_recover.proofs.tail.cut_tail.Goals.{After-cut_synced, In_ok-cut_synced, After-cut_synced-2, In_ok-cut_synced-2, After-write_synced, In_ok-write_synced}
 use Rattle.xod_recover.proofs.tail.cut_tail.Goals as goal
@@ -177,9 +179,6 @@ returns-clause-crash g c told near = (run-third g (goal.at.returns-clause-crash 
 pub returns-clause-opened : goal.returns-clause-opened
 returns-clause-opened g c told = opened g (goal.at.returns-clause-opened g c).In_ok-write_synced told
 
-pub returns-clause-decided : goal.returns-clause-decided
-returns-clause-decided g c told = decided (newest_of c.args.found.now) _ (c.requires.was_found told) (c.requires.was_found told).fits _ (reads g (goal.at.returns-clause-decided g c).In_ok-write_synced told)
-
 pub returns-clause-others : goal.returns-clause-others
 returns-clause-others g c told = (reads g (goal.at.returns-clause-others g c).In_ok-write_synced told).others
 
@@ -228,3 +227,51 @@ returns-in_err-write_synced-clause-others g c told other not_body not_ends =
     let third = (goal.at.returns-in_err-write_synced-clause-others g c).After-write_synced in
     let second = cut_second g (second_done g third) in
     third-others g third told other not_ends ∙ second-others g second told other not_body ∙ first-others g (cut_first g (first_done g second)) told other not_ends
+
+-- ---- what was found is kept
+
+first-on : (g : Over) (c : After-cut_synced g) → IsTrue (g.V.Volume.tells c.args.volume.now)
+    → OnFile (ends_of c.args.found.now.file) (OnBytes (Shortened (13 * (c.args.found.now.marks + 1)))) (g.V.Volume.files c.args.volume.now) (g.V.Volume.files c.cut_synced.new.volume)
+first-on g c told = rw c.ends_file-ends.ensures at c.cut_synced.ensures.reads told
+
+first-cut : (g : Over) (c : In_ok-cut_synced g) → IsTrue (g.V.Volume.tells c.args.volume.now)
+    → get (g.V.Volume.files c.cut_synced.new.volume) (ends_of c.args.found.now.file) ≡ Some (take (13 * (c.args.found.now.marks + 1)) (bytes_of (g.V.Volume.files c.args.volume.now) (ends_of c.args.found.now.file)))
+first-cut g c told = put_there _ _ (ends_of c.args.found.now.file) _ (first-is g c told)
+
+second-on : (g : Over) (c : After-cut_synced-2 g) → IsTrue (g.V.Volume.tells c.args.volume.now)
+    → OnFile (body_of c.args.found.now.file) (OnBytes (Shortened c.args.found.now.end)) (g.V.Volume.files c.cut_synced.new.volume) (g.V.Volume.files c.cut_synced-2.new.volume)
+second-on g c told =
+    let told1 : IsTrue (g.V.Volume.tells c.cut_synced.new.volume) = rw c.cut_synced.ensures.stays.tells told in
+    rw c.body_file-body.ensures at c.cut_synced-2.ensures.reads told1
+
+third-on : (g : Over) (c : After-write_synced g) → IsTrue (g.V.Volume.tells c.args.volume.now)
+    → OnFile (ends_of c.args.found.now.file) (OnBytes (Torn (13 * c.args.found.now.marks) 13)) (g.V.Volume.files c.cut_synced-2.new.volume) (g.V.Volume.files c.write_synced.new.volume)
+third-on g c told =
+    let told1 : IsTrue (g.V.Volume.tells c.cut_synced.new.volume) = rw c.cut_synced.ensures.stays.tells told in
+    let told2 : IsTrue (g.V.Volume.tells c.cut_synced-2.new.volume) = rw c.cut_synced-2.ensures.stays.tells told1 in
+    rw c.ends_file-ends.ensures at c.write_synced.ensures.reads told2
+
+three-kept : (g : Over) (c : After-write_synced g) → IsTrue (g.V.Volume.tells c.args.volume.now) → KeepsFound (newest_of c.args.found.now) (g.V.Volume.files c.args.volume.now) (g.V.Volume.files c.write_synced.new.volume)
+three-kept g c told =
+    let second = cut_second g (second_done g c) in
+    let first = first_done g second in
+    third_keeps (newest_of c.args.found.now) _ (c.requires.was_found told) (c.requires.was_found told).fits _ (first-on g (cut_first g first) told) (first-cut g first told) _ (second-on g second told) _ (third-on g c told)
+
+pub returns-in_err-cut_synced-clause-keeps : goal.returns-in_err-cut_synced-clause-keeps
+returns-in_err-cut_synced-clause-keeps g c told =
+    first_keeps (newest_of c.args.found.now) _ (c.requires.was_found told) (c.requires.was_found told).fits _ (first-on g (goal.at.returns-in_err-cut_synced-clause-keeps g c).After-cut_synced told)
+
+pub returns-in_err-cut_synced-2-clause-keeps : goal.returns-in_err-cut_synced-2-clause-keeps
+returns-in_err-cut_synced-2-clause-keeps g c told =
+    let second = (goal.at.returns-in_err-cut_synced-2-clause-keeps g c).After-cut_synced-2 in
+    let first = first_done g second in
+    second_keeps (newest_of c.args.found.now) _ (c.requires.was_found told) (c.requires.was_found told).fits _ (first-on g (cut_first g first) told) (first-cut g first told) _ (second-on g second told)
+
+pub returns-in_err-write_synced-clause-keeps : goal.returns-in_err-write_synced-clause-keeps
+returns-in_err-write_synced-clause-keeps g c told = three-kept g (goal.at.returns-in_err-write_synced-clause-keeps g c).After-write_synced told
+
+pub returns-clause-keeps : goal.returns-clause-keeps
+returns-clause-keeps g c told = three-kept g (goal.at.returns-clause-keeps g c).After-write_synced told
+
+pub returns-clause-still_found : goal.returns-clause-still_found
+returns-clause-still_found g c told = still_found (newest_of c.args.found.now) _ (c.requires.was_found told) (c.requires.was_found told).fits _ (reads g (goal.at.returns-clause-still_found g c).In_ok-write_synced told)

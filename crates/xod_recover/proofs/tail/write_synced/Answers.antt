@@ -1,6 +1,7 @@
-use Rattle.std.proofs.Common.{IsTrue, sym, ap, ◌∙◌}
+use Rattle.std.proofs.Common.{IsTrue, length, sym, subst, ap, ◌∙◌}
 use Rattle.std.specs.FinMap.{get}
 use Rattle.xod_volume.specs.Files.{Files}
+use Rattle.xod_volume.specs.Crash.{OnFile, OnBytes, Torn}
 use Rattle.xod_log.proofs.CallerLemmas.{put_is_there}
 use Rattle.xod_recover.proofs.CutReads.{torn_then_synced}
 use Rattle.xod_recover.proofs.tail.write_synced.Goals as goal
@@ -35,3 +36,13 @@ pub returns-clause-others : goal.returns-clause-others
 returns-clause-others g c told other apart =
     let t1 : IsTrue (g.V.Volume.tells c.write_at.new.self) = rw c.write_at.ensures.stays.tells told in
     ap (λ (f : Files). get f other) (c.sync.ensures.same t1) ∙ (c.write_at.ensures.torn told).others other apart
+
+pub returns-in_err-sync-clause-reads : goal.returns-in_err-sync-clause-reads
+returns-in_err-sync-clause-reads g c told =
+    let t1 : IsTrue (g.V.Volume.tells c.write_at.new.self) = rw c.write_at.ensures.stays.tells told in
+    subst (λ (f : Files). OnFile c.args.file (OnBytes (Torn c.args.at (length c.args.bytes.now))) (g.V.Volume.files c.args.volume.now) f) (sym (c.sync.ensures.same t1)) (c.write_at.ensures.torn told)
+
+pub returns-clause-reads : goal.returns-clause-reads
+returns-clause-reads g c told =
+    let t1 : IsTrue (g.V.Volume.tells c.write_at.new.self) = rw c.write_at.ensures.stays.tells told in
+    subst (λ (f : Files). OnFile c.args.file (OnBytes (Torn c.args.at (length c.args.bytes.now))) (g.V.Volume.files c.args.volume.now) f) (sym (c.sync.ensures.same t1)) (c.write_at.ensures.torn told)

@@ -1,4 +1,4 @@
-use Rattle.std.proofs.Common.{◌≡◌, ◌-◌, ◌+◌, ◌<◌, ◌∙◌, sym, arith, get_or, length}
+use Rattle.std.proofs.Common.{◌≡◌, ◌-◌, ◌+◌, ◌<◌, ◌∙◌, refl, sym, arith, get_or, length}
 use Rattle.xod_volume.specs.Files.{Files}
 use Rattle.xod_recover.specs.Opened.{log_file_of, used_at}
 use Rattle.xod_recover.specs.Uses.{Finds}
@@ -7,7 +7,7 @@ use Rattle.xod_recover.proofs.Using.{last_used-first, finds-greatest, last_used-
 use Rattle.xod_recover.proofs.used.find_used.Goals as goal
 
 pub loop-left-init : goal.loop-left-init
-loop-left-init g c = record { within = omega arith; reads = reads-none; rest = λ told. last_used-first (g.V.Volume.files c.args.volume.now) c.args.numbers.now (c.requires.listed told) }
+loop-left-init g c = record { within = omega arith; reads = reads-none; unfailed = refl; rest = λ told. last_used-first (g.V.Volume.files c.args.volume.now) c.args.numbers.now (c.requires.listed told) }
 
 pub returns-then-is_some-clause-found : goal.returns-then-is_some-clause-found
 returns-then-is_some-clause-found g c told =
@@ -23,6 +23,13 @@ loop-left-preserved g c =
     record {
       within = omega (arith, within);
       reads = reads-then c.loop-left.invariant.reads c.used_by.ensures.reads;
+      unfailed = c.in_ok-found.ensures.unfailed ∙ c.loop-left.invariant.unfailed;
       rest = λ told. last_used-passed (g.V.Volume.files c.args.volume.now) c.args.numbers.now (c.requires.listed told) c.loop-left.left (c.loop-left.left - 1) next within (c.loop-left.invariant.rest told) c.in_ok-found.found
           (reads-over (λ (f : Files). Finds f (used_at f (log_file_of (get_or c.args.numbers.now (c.loop-left.left - 1) 0))) c.in_ok-found.found) c.loop-left.invariant.reads told c.in_ok-found.ensures.found) (sym c.is_some.ensures ∙ c.if-is_some.false);
     }
+
+pub returns-then-is_some-clause-unfailed : goal.returns-then-is_some-clause-unfailed
+returns-then-is_some-clause-unfailed g c = c.in_ok-found.ensures.unfailed ∙ c.loop-left.invariant.unfailed
+
+pub returns-clause-unfailed : goal.returns-clause-unfailed
+returns-clause-unfailed g c = c.loop-left.invariant.unfailed

@@ -11,6 +11,7 @@ invariant-loop-left g l =
     record {
       within : l.left ≤ length l.numbers;
       reads : OnlyReads V.tells V.files V.moment V.may_leave V.leases V.refs V.faults l.initial.volume l.volume;
+      unfailed : V.faults l.volume ≡ V.faults l.initial.volume;
       rest : IsTrue (V.tells l.initial.volume) → last_used (V.files l.initial.volume) (take l.left (keys (V.files l.initial.volume))) ≡ greatest_used (V.files l.initial.volume);
     }
 
