@@ -22,6 +22,10 @@ same_any : (p q : ℕ → Bool) → ((y : ℕ) → p y ≡ q y) → (ks : List �
 same_any p q same [] = refl
 same_any p q same (y ∷ ks) = ap (λ (b : Bool). b || list_any p ks) (same y) ∙ ap (λ (b : Bool). q y || b) (same_any p q same ks)
 
+-- a list of a volume's numbers has a number exactly where the volume has the file
+pub listed_there : (files : Files) (number : ℕ) → list_any (λ other. other == number) (keys files) ≡ is_some (get files number)
+listed_there files number = same_any (λ other. other == number) (eq_by_cmp nat_cmp number) (same_test number) (keys files) ∙ sym (contains_key-keys files number)
+
 own_body : (current file number : ℕ) → file ≤ current → (number == 2 * file) ≡ true → is_body_up_to current number ≡ true
 own_body current file number le is = grind (arith, nat_tests)
 

@@ -1,5 +1,5 @@
 -- What a seal leaves of an environment: the ends of the current log file alone may differ.
-use Rattle.std.proofs.Common.{◌≡◌, ℕ, ◌+◌, ◌-◌, ◌*◌, ◌&&◌, Bool, true, false, cond, if◌then◌else◌, Some, None, drop, refl, sym, ◌∙◌, ap, arith, inl, inr}
+use Rattle.std.proofs.Common.{◌≡◌, ℕ, ◌+◌, ◌&&◌, Bool, true, false, cond, if◌then◌else◌, None, refl, sym, ◌∙◌, ap, arith, inl, inr}
 use mathlib.Core.Logic.{◌≢◌}
 use Rattle.std.specs.Prelude.{is_some}
 use Rattle.std.specs.FinMap.{contains_key, get, len, get-retain_keys, nat_cmp-IsAntisymmetric}
@@ -7,12 +7,11 @@ use Rattle.std.proofs.lemmas.Bool.{cases_eq}
 use Rattle.std.proofs.lemmas.Bool.Decides.{nat_tests}
 use Rattle.xod_log.specs.declared.log.Log.{Log}
 use Rattle.xod_log.specs.Ends.{ends_of}
-use Rattle.xod_log.specs.Standing.{Stands, body_file, ends_file, last_file, sealed_log}
-use Rattle.xod_root.specs.Roots.{Roots}
-use Rattle.xod_volume.specs.Files.{Content, Files, bytes_in, bytes_of}
+use Rattle.xod_log.specs.Standing.{last_file, sealed_log}
+use Rattle.xod_volume.specs.Files.{Content, Files}
 use Rattle.xod_volume.proofs.CallerLemmas.{same_files}
 use Rattle.xod_env.specs.Bodies.{is_body_up_to}
-use Rattle.xod_env.specs.Envs.{IsOpenOn, bodies_up_to, log_bodies, log_file_count}
+use Rattle.xod_env.specs.Envs.{bodies_up_to, log_bodies, log_file_count}
 
 -- ---- files
 
@@ -78,32 +77,3 @@ sealed_far log = either_far log.is_sealed log log (record log { marks = log.mark
 
 pub answered_far : (b : Bool) (log : Log) → IsAsFar log (if b then sealed_log log else log)
 answered_far b log = either_far b log (sealed_log log) log (sealed_far log) (as_far log)
-
--- ---- the environment
-
-module _ (log after : Log) (roots : Roots) (commit count : ℕ) (before now : Files) (past images : Files → Type 0) where
-  -- it is open where the log stands after a seal
-  pub sealed_open : IsOpenOn log roots commit count before past → IsAsFar log after
-      → ((other : ℕ) → other ≢ ends_file log → get now other ≡ get before other)
-      → Stands after now images → IsOpenOn after roots commit count now images
-  sealed_open opened far others stands =
-      let own : get now (body_file after) ≡ get before (body_file log) =
-      ap (λ (n : ℕ). get now (2 * n)) far.file ∙ others (body_file log) (λ e. omega (arith, e)) in
-      let body : bytes_of now (body_file after) ≡ bytes_of before (body_file log) = ap bytes_in own in
-      let there : get now (ends_file log) ≡ Some (bytes_of now (ends_file after)) =
-      ap (λ (n : ℕ). get now (2 * n + 1)) (sym far.file) ∙ stands.has_ends in
-      let newest = opened.newest in
-      record {
-        stands = stands;
-        newest = record {
-          no_commit = λ e. newest.no_commit (sym far.end ∙ e);
-          no_roots = λ e. newest.no_roots (sym far.end ∙ e);
-          within = omega (arith, far.end, far.back, newest.within);
-          root = λ lt.
-              let size : after.end - after.back ≡ log.end - log.back = omega (arith, far.end, far.back) in
-              ap (λ (n : ℕ). drop n (bytes_of now (body_file after))) size
-              ∙ ap (drop (log.end - log.back)) body
-              ∙ newest.root (omega (arith, far.end, lt));
-        };
-        counted = opened.counted ∙ sym (same_count log.file before now others (ap is_some opened.stands.has_ends) (ap is_some there));
-      }

@@ -1,5 +1,10 @@
+pub mod Blocks
 pub mod Bodies
+pub mod Building
+pub mod Counts
 pub mod EnvCalls
 pub mod Envs
 pub mod Errors
+pub mod Flushes
+pub mod Opening
 pub mod Snapshots

@@ -10,7 +10,7 @@ use std::alloc::Global;
 use xod_base::Memory;
 
 /// Whether a volume file is the body of a log file whose number is this one or below it.
-fn is_body_up_to(number: u64, current: u32) -> bool
+pub(crate) fn is_body_up_to(number: u64, current: u32) -> bool
     ensures { result ≡ is_body_up_to current number }
 {
     number % 2 == 0 && number / 2 <= u64::from(current)

@@ -1,24 +1,43 @@
 //! The environment: the newest commit of a store, over the files of a volume.
 //!
-//! It lends snapshots of its newest commit, and makes that outlive a crash. Nothing here opens a volume or writes a block.
-//! What it is open on stands in `specs/Envs.antt`.
-ghost use Rattle.std.specs.Prelude.{◌≡◌, ◌∷◌, ◌↔◌, false, true, if◌then◌else◌, is_ok, IfOk, IsErrOf, IsTrue, OnErr, OnOk};
+//! It lends snapshots of its newest commit, commits touched keys over it, and makes it outlive a crash. How it is opened
+//! stands in `opening`, and the steps of a flush in `flush`. What it is open on stands in `specs/Envs.antt`.
+ghost use Rattle.std.specs.Prelude.{◌≡◌, ◌≤◌, Ok, Err, IfSome, ◌∷◌, ◌↔◌, ◌<◌, ◌+◌, ◌^◌, ℕ, false, true, if◌then◌else◌, is_ok, IfOk, IsErrOf, IsTrue, OnErr, OnOk, Some};
 ghost use Rattle.std.specs.FinMap.{keys};
 ghost use Rattle.std.specs.List.{filter};
-ghost use Rattle.xod_log.specs.Calls.{Outlives};
-ghost use Rattle.xod_log.specs.Standing.{sealed_log};
+ghost use Rattle.std.proofs.Props.{props};
+ghost use Rattle.xod_base.specs.Causes.{Rose};
+ghost use Rattle.xod_base.specs.declared.causes.Place.{Place};
+ghost use Rattle.xod_commit.specs.Blocks.{Fit};
+ghost use Rattle.xod_log.specs.declared.error.LogError.{LogError};
+ghost use Rattle.xod_log.specs.Standing.{is_due, is_last, last_file, next_place_of, sealed_log};
+ghost use Rattle.xod_overlay.specs.Marks.{overlaid_trees, touched};
+ghost use Rattle.xod_recover.specs.Images.{AllStore, Settled, Stores};
+ghost use Rattle.xod_root.specs.Roots.{Roots};
+ghost use Rattle.xod_trie_mut.specs.Changes.{KeysFit};
+ghost use Rattle.xod_volume.specs.Crash.{Passes};
 ghost use Rattle.xod_volume.specs.Leases.{Added, Stays, without};
 ghost use Rattle.xod_env.specs.declared.error.EnvError.{EnvError};
+ghost use Rattle.xod_env.specs.declared.error.FlushError.{FlushError};
+ghost use Rattle.xod_env.specs.declared.flushed.Flushed.{Flushed};
+ghost use Rattle.xod_env.specs.Blocks.{IsNextBlock, trees_with};
 ghost use Rattle.xod_env.specs.Bodies.{is_body_up_to};
-ghost use Rattle.xod_env.specs.EnvCalls.{KeepsFiles, KeepsNewest, LeavesSeal, Refuses};
-ghost use Rattle.xod_env.specs.Envs.{IsOpenOn, bodies_up_to, env_trees};
+ghost use Rattle.xod_env.specs.Building.{IsPlacedAt};
+ghost use Rattle.xod_env.specs.EnvCalls.{KeepsFiles, KeepsNewest, Refuses};
+ghost use Rattle.xod_env.specs.Envs.{ArePlaced, IsOpenOn, IsSteady, env_trees, newest_stored};
+ghost use Rattle.xod_env.specs.Flushes.{IsConflict, IsSpent, IsUntouched, KeepsCommit, last_commit};
 ghost use Rattle.xod_env.specs.Snapshots.{snapshot_trees};
 
-use crate::error::EnvError;
+use crate::error::{EnvError, FlushError};
+use crate::flush::{NO_PLACE, build_next, has_room, write_block};
+use crate::flushed::Flushed;
 use crate::lend::lend_bodies;
+use crate::parts::seal_newest;
 use crate::snapshot::Snapshot;
 use std::alloc::Global;
+use xod_commit::Built;
 use xod_log::{Log, LogError};
+use xod_overlay::Overlay;
 use xod_pages::Pages;
 use xod_root::RootList;
 use xod_volume::Volume;
@@ -35,7 +54,8 @@ pub struct Env<V: Volume> {
     file_count: u64,
     is_broken: bool,
     ghost opened: { is_broken ≡ false → IsTrue (V.tells volume) → IsOpenOn log roots
-        commit file_count (V.files volume) (V.may_leave volume (V.moment volume)) },
+        commit file_count (V.files volume) (V.may_leave volume (V.moment volume)) } by { Prim.hlevel props },
+    ghost placed: { ArePlaced log roots },
 }
 
 impl<V: Volume> Env<V> {
@@ -44,6 +64,7 @@ impl<V: Volume> Env<V> {
     pub(crate) fn over(volume: V, log: Log, roots: RootList, commit: u64, file_count: u64) -> Self
         requires opened { IsTrue (V.tells volume) → IsOpenOn log roots commit file_count
             (V.files volume) (V.may_leave volume (V.moment volume)) }
+        requires placed { ArePlaced log roots }
         ensures volume { result.volume ≡ volume }
         ensures log { result.log ≡ log }
         ensures roots { result.roots ≡ roots }
@@ -108,6 +129,11 @@ impl<V: Volume> Env<V> {
             self.old.commit self.new.commit self.old.file_count self.new.file_count }
         ensures files { KeepsFiles V.tells V.files V.moment V.may_leave V.refs V.faults
             self.old.volume self.new.volume }
+        ensures steady { IsTrue (V.tells self.old.volume)
+            → IsSteady self.old.log (V.files self.old.volume)
+            (V.may_leave self.old.volume (V.moment self.old.volume))
+            → IsSteady self.new.log (V.files self.new.volume)
+            (V.may_leave self.new.volume (V.moment self.new.volume)) }
     {
         if self.is_broken {
             return Err(EnvError::Broken);
@@ -134,6 +160,11 @@ impl<V: Volume> Env<V> {
             self.old.commit self.new.commit self.old.file_count self.new.file_count }
         ensures files { KeepsFiles V.tells V.files V.moment V.may_leave V.refs V.faults
             self.old.volume self.new.volume }
+        ensures steady { IsTrue (V.tells self.old.volume)
+            → IsSteady self.old.log (V.files self.old.volume)
+            (V.may_leave self.old.volume (V.moment self.old.volume))
+            → IsSteady self.new.log (V.files self.new.volume)
+            (V.may_leave self.new.volume (V.moment self.new.volume)) }
     {
         let Snapshot {
             lease,
@@ -144,10 +175,255 @@ impl<V: Volume> Env<V> {
         self.volume.take_back(lease);
     }
 
+    /// Writes the block of the next commit, and goes on from it.
+    fn write_commit(&mut self, built: Built) -> Result<(), LogError>
+        requires whole { self.old.is_broken ≡ false }
+        requires room { is_due self.old.log ≡ true → is_last self.old.log ≡ false }
+        requires numbers_left { self.old.commit + 1 < 2 ^ 64 }
+        requires next { IsTrue (V.tells self.old.volume) → IsNextBlock self.old.log
+            (V.files self.old.volume) built.block built.back built.roots (self.old.commit + 1) }
+        requires placed { IsPlacedAt (next_place_of self.old.log) built }
+        ensures committed { OnOk result (self.new.commit ≡ self.old.commit + 1) }
+        ensures trees { IsTrue (V.tells self.old.volume) → OnOk result (
+            env_trees self.new.log.file (V.files self.new.volume) self.new.roots
+            ≡ trees_with self.old.log (V.files self.old.volume) built.block built.roots) }
+        ensures refused { OnErr result (KeepsCommit (V.tells self.old.volume)
+            self.old.commit self.new.commit self.old.roots self.new.roots
+            (env_trees self.old.log.file (V.files self.old.volume) self.old.roots)
+            (env_trees self.new.log.file (V.files self.new.volume) self.new.roots)) }
+        ensures breaks_exactly { (self.new.is_broken ≡ true) ↔ IsErrOf result LogError.Device }
+        ensures numbers_stay { (last : ℕ) → ¬ (IsErrOf result (LogError.NumbersSpent last)) }
+        ensures failed { IsErrOf result LogError.Device
+            → Rose (V.faults self.old.volume) (V.faults self.new.volume) }
+        ensures unfailed { ¬ (IsErrOf result LogError.Device)
+            → V.faults self.new.volume ≡ V.faults self.old.volume }
+        ensures stays { Stays (V.tells self.old.volume) (V.tells self.new.volume)
+            (V.leases self.old.volume) (V.leases self.new.volume)
+            (V.refs self.old.volume) (V.refs self.new.volume)
+            (V.faults self.old.volume) (V.faults self.new.volume) }
+
+        // What a crash may leave.
+        ensures kept { IsTrue (V.tells self.old.volume)
+            → V.may_leave self.old.volume (V.moment self.old.volume) (V.files self.old.volume)
+            → V.may_leave self.new.volume (V.moment self.new.volume) (V.files self.new.volume) }
+        ensures crash { IsTrue (V.tells self.old.volume)
+            → IsSteady self.old.log (V.files self.old.volume)
+            (V.may_leave self.old.volume (V.moment self.old.volume))
+            → Passes (V.moment self.old.volume) (V.moment self.new.volume)
+            (V.may_leave self.old.volume) (V.may_leave self.new.volume)
+            (Stores (Some (newest_stored self.old.log.file (V.files self.old.volume)
+            self.old.roots self.old.commit))) }
+        ensures steady { IsTrue (V.tells self.old.volume)
+            → IsSteady self.old.log (V.files self.old.volume)
+            (V.may_leave self.old.volume (V.moment self.old.volume))
+            → ¬ (IsErrOf result LogError.Device)
+            → IsSteady self.new.log (V.files self.new.volume)
+            (V.may_leave self.new.volume (V.moment self.new.volume)) }
+    {
+        let Env {
+            volume,
+            log,
+            roots,
+            commit,
+            file_count,
+            is_broken,
+        } = self;
+        let Built {
+            block,
+            back,
+            roots: new_roots,
+        } = built;
+        match write_block(volume, log, file_count, block.as_slice(), back) {
+            Ok(()) => {
+                *roots = new_roots;
+                *commit += 1;
+                Ok(())
+            }
+            Err(LogError::Device) => {
+                *is_broken = true;
+                Err(LogError::Device)
+            }
+            Err(LogError::NumbersSpent { last }) => Err(LogError::NumbersSpent { last }),
+            Err(LogError::Memory) => Err(LogError::Memory),
+        }
+    }
+
+    /// Builds the block of the next commit, and writes it.
+    fn commit_changes(&mut self, alloc: Global, changes: &Overlay) -> Result<(), FlushError>
+        requires whole { self.old.is_broken ≡ false }
+        requires numbers_left { self.old.commit + 1 < 2 ^ 64 }
+        requires fit { Fit (touched changes.now) }
+        requires keys_fit { IsTrue (V.tells self.old.volume) → (tree : ℕ)
+            → IfSome (env_trees self.old.log.file (V.files self.old.volume) self.old.roots tree)
+            KeysFit }
+        ensures committed { OnOk result (self.new.commit ≡ self.old.commit + 1) }
+        ensures trees { IsTrue (V.tells self.old.volume) → OnOk result ((tree : ℕ)
+            → env_trees self.new.log.file (V.files self.new.volume) self.new.roots tree
+            ≡ overlaid_trees (touched changes.now)
+            (env_trees self.old.log.file (V.files self.old.volume) self.old.roots) tree) }
+        ensures refused { OnErr result (KeepsCommit (V.tells self.old.volume)
+            self.old.commit self.new.commit self.old.roots self.new.roots
+            (env_trees self.old.log.file (V.files self.old.volume) self.old.roots)
+            (env_trees self.new.log.file (V.files self.new.volume) self.new.roots)) }
+        ensures breaks_only_by_device { self.new.is_broken ≡ true
+            → IsErrOf result FlushError.Device }
+        ensures no_other { (¬ (IsErrOf result FlushError.Broken)) × ((seen now : ℕ)
+            → ¬ (IsErrOf result (FlushError.Conflict seen now))) }
+        ensures spent_by_file { (last : ℕ) → IsErrOf result (FlushError.NumbersSpent last)
+            → (self.old.log.file ≡ last_file) × (last ≡ last_file) }
+        ensures never_damaged { IsTrue (V.tells self.old.volume) → (place : Place)
+            → ¬ (IsErrOf result (FlushError.Damaged place)) }
+        ensures device { IsErrOf result FlushError.Device
+            → Rose (V.faults self.old.volume) (V.faults self.new.volume) }
+        ensures unfailed { ¬ (IsErrOf result FlushError.Device)
+            → ((place : Place) → ¬ (IsErrOf result (FlushError.Damaged place)))
+            → V.faults self.new.volume ≡ V.faults self.old.volume }
+        ensures stays { Stays (V.tells self.old.volume) (V.tells self.new.volume)
+            (V.leases self.old.volume) (V.leases self.new.volume)
+            (V.refs self.old.volume) (V.refs self.new.volume)
+            (V.faults self.old.volume) (V.faults self.new.volume) }
+
+        // What a crash may leave.
+        ensures kept { IsTrue (V.tells self.old.volume)
+            → V.may_leave self.old.volume (V.moment self.old.volume) (V.files self.old.volume)
+            → V.may_leave self.new.volume (V.moment self.new.volume) (V.files self.new.volume) }
+        ensures crash { IsTrue (V.tells self.old.volume)
+            → IsSteady self.old.log (V.files self.old.volume)
+            (V.may_leave self.old.volume (V.moment self.old.volume))
+            → Passes (V.moment self.old.volume) (V.moment self.new.volume)
+            (V.may_leave self.old.volume) (V.may_leave self.new.volume)
+            (Stores (Some (newest_stored self.old.log.file (V.files self.old.volume)
+            self.old.roots self.old.commit))) }
+        ensures steady { IsTrue (V.tells self.old.volume)
+            → IsSteady self.old.log (V.files self.old.volume)
+            (V.may_leave self.old.volume (V.moment self.old.volume))
+            → ¬ (IsErrOf result FlushError.Device)
+            → IsSteady self.new.log (V.files self.new.volume)
+            (V.may_leave self.new.volume (V.moment self.new.volume)) }
+    {
+        if self.log.next_place().at >= NO_PLACE {
+            return Err(FlushError::NumbersSpent {
+                last: u64::from(u32::MAX),
+            });
+        }
+        let next = self.commit + 1;
+        let log = self.log;
+        let built = build_next(alloc, &mut self.volume, log, &self.roots, next, changes)?;
+        if !has_room(&self.log) {
+            return Err(FlushError::NumbersSpent {
+                last: u64::from(u32::MAX),
+            });
+        }
+        self.write_commit(built)?;
+        Ok(())
+    }
+
+    /// Commits touched keys over the newest commit, which `base` is to be: the trees are then those before with these keys
+    /// put and removed. A refusal leaves the newest commit, its roots and its trees as they were; after a write that
+    /// failed the environment is broken. Only `sync` and `close` make the commit outlive a crash.
+    pub fn flush(
+        &mut self,
+        alloc: Global,
+        base: u64,
+        changes: &Overlay,
+    ) -> Result<Flushed, FlushError>
+        requires seen { base ≤ self.old.commit }
+        requires fit { Fit (touched changes.now) }
+        requires keys_fit { IsTrue (V.tells self.old.volume) → self.old.is_broken ≡ false
+            → (tree : ℕ) → IfSome (env_trees self.old.log.file (V.files self.old.volume)
+            self.old.roots tree) KeysFit }
+        ensures committed { (version : ℕ) → result ≡ Ok (Flushed.Commit version)
+            → (version ≡ self.old.commit + 1) × (self.new.commit ≡ version) }
+        ensures trees { IsTrue (V.tells self.old.volume) → (version tree : ℕ)
+            → result ≡ Ok (Flushed.Commit version)
+            → env_trees self.new.log.file (V.files self.new.volume) self.new.roots tree
+            ≡ overlaid_trees (touched changes.now)
+            (env_trees self.old.log.file (V.files self.old.volume) self.old.roots) tree }
+
+        // What comes before all else, in this order.
+        ensures broken_exactly { (result ≡ Err FlushError.Broken)
+            ↔ (self.old.is_broken ≡ true) }
+        ensures broken_before_all { self.old.is_broken ≡ true → self.new ≡ self.old }
+        ensures nothing_exactly { (result ≡ Ok Flushed.Nothing)
+            ↔ ((self.old.is_broken ≡ false) × IsUntouched (touched changes.now)) }
+        ensures nothing_leaves_all { result ≡ Ok Flushed.Nothing → self.new ≡ self.old }
+        ensures conflict_exactly { (seen now : ℕ) → (result ≡ Err (FlushError.Conflict seen now))
+            ↔ IsConflict self.old.is_broken (touched changes.now) base self.old.commit seen now }
+        ensures conflict_leaves_all { (seen now : ℕ)
+            → result ≡ Err (FlushError.Conflict seen now) → self.new ≡ self.old }
+        ensures spent_by_commit { self.old.is_broken ≡ false
+            → ¬ (IsUntouched (touched changes.now)) → base ≡ self.old.commit
+            → self.old.commit ≡ last_commit
+            → (result ≡ Err (FlushError.NumbersSpent last_commit)) × (self.new ≡ self.old) }
+        ensures spent_only { (last : ℕ) → result ≡ Err (FlushError.NumbersSpent last)
+            → IsSpent self.old.commit self.old.log.file last }
+
+        // Each refusal.
+        ensures refused { OnErr result (KeepsCommit (V.tells self.old.volume)
+            self.old.commit self.new.commit self.old.roots self.new.roots
+            (env_trees self.old.log.file (V.files self.old.volume) self.old.roots)
+            (env_trees self.new.log.file (V.files self.new.volume) self.new.roots)) }
+        ensures breaks_only_by_device { self.old.is_broken ≡ false → self.new.is_broken ≡ true
+            → result ≡ Err FlushError.Device }
+        ensures device { result ≡ Err FlushError.Device
+            → Rose (V.faults self.old.volume) (V.faults self.new.volume) }
+        ensures unfailed { ¬ (result ≡ Err FlushError.Device)
+            → ((place : Place) → ¬ (result ≡ Err (FlushError.Damaged place)))
+            → V.faults self.new.volume ≡ V.faults self.old.volume }
+        ensures never_damaged { IsTrue (V.tells self.old.volume) → (place : Place)
+            → ¬ (result ≡ Err (FlushError.Damaged place)) }
+        ensures stays { Stays (V.tells self.old.volume) (V.tells self.new.volume)
+            (V.leases self.old.volume) (V.leases self.new.volume)
+            (V.refs self.old.volume) (V.refs self.new.volume)
+            (V.faults self.old.volume) (V.faults self.new.volume) }
+
+        // What a crash may leave.
+        ensures kept { IsTrue (V.tells self.old.volume)
+            → V.may_leave self.old.volume (V.moment self.old.volume) (V.files self.old.volume)
+            → V.may_leave self.new.volume (V.moment self.new.volume) (V.files self.new.volume) }
+        ensures crash { IsTrue (V.tells self.old.volume) → self.old.is_broken ≡ false
+            → IsSteady self.old.log (V.files self.old.volume)
+            (V.may_leave self.old.volume (V.moment self.old.volume))
+            → Passes (V.moment self.old.volume) (V.moment self.new.volume)
+            (V.may_leave self.old.volume) (V.may_leave self.new.volume)
+            (Stores (Some (newest_stored self.old.log.file (V.files self.old.volume)
+            self.old.roots self.old.commit))) }
+        ensures steady { IsTrue (V.tells self.old.volume)
+            → IsSteady self.old.log (V.files self.old.volume)
+            (V.may_leave self.old.volume (V.moment self.old.volume))
+            → ¬ (result ≡ Err FlushError.Device)
+            → IsSteady self.new.log (V.files self.new.volume)
+            (V.may_leave self.new.volume (V.moment self.new.volume)) }
+    {
+        if self.is_broken {
+            return Err(FlushError::Broken);
+        }
+        if changes.is_empty() {
+            return Ok(Flushed::Nothing);
+        }
+        if base != self.commit {
+            return Err(FlushError::Conflict {
+                base,
+                now: self.commit,
+            });
+        }
+        if self.commit == u64::MAX {
+            return Err(FlushError::NumbersSpent { last: u64::MAX });
+        }
+        self.commit_changes(alloc, changes)?;
+        Ok(Flushed::Commit {
+            version: self.commit,
+        })
+    }
+
     /// Makes the newest commit outlive a crash.
     pub fn sync(&mut self) -> Result<(), EnvError>
-        ensures durable { IsTrue (V.tells self.old.volume) → OnOk result (Outlives self.old.log
-            (V.files self.new.volume) (V.may_leave self.new.volume (V.moment self.new.volume))) }
+        ensures durable { IsTrue (V.tells self.old.volume)
+            → IsSteady self.old.log (V.files self.old.volume)
+            (V.may_leave self.old.volume (V.moment self.old.volume))
+            → OnOk result (AllStore (Some (newest_stored self.old.log.file
+            (V.files self.old.volume) self.old.roots self.old.commit))
+            (V.may_leave self.new.volume (V.moment self.new.volume))) }
         ensures refusals { Refuses self.old.is_broken (V.faults self.old.volume)
             (V.faults self.new.volume) result }
         ensures broken_before_all { self.old.is_broken ≡ true → self.new ≡ self.old }
@@ -157,17 +433,36 @@ impl<V: Volume> Env<V> {
             ≡ (if is_ok result then sealed_log self.old.log else self.old.log) }
         ensures newest { KeepsNewest self.old.roots self.new.roots
             self.old.commit self.new.commit self.old.file_count self.new.file_count }
-        ensures bodies_stay { IsTrue (V.tells self.old.volume)
-            → bodies_up_to self.old.log.file (V.files self.new.volume)
-            ≡ bodies_up_to self.old.log.file (V.files self.old.volume) }
+        ensures trees { IsTrue (V.tells self.old.volume) → (roots : Roots)
+            → env_trees self.old.log.file (V.files self.new.volume) roots
+            ≡ env_trees self.old.log.file (V.files self.old.volume) roots }
         ensures stays { Stays (V.tells self.old.volume) (V.tells self.new.volume)
             (V.leases self.old.volume) (V.leases self.new.volume)
             (V.refs self.old.volume) (V.refs self.new.volume)
             (V.faults self.old.volume) (V.faults self.new.volume) }
 
         // What a crash may leave.
-        ensures leaves { IsTrue (V.tells self.old.volume) → self.old.is_broken ≡ false
-            → LeavesSeal V.files V.moment V.may_leave self.old.log self.old.volume self.new.volume }
+        ensures kept { IsTrue (V.tells self.old.volume)
+            → V.may_leave self.old.volume (V.moment self.old.volume) (V.files self.old.volume)
+            → V.may_leave self.new.volume (V.moment self.new.volume) (V.files self.new.volume) }
+        ensures crash { IsTrue (V.tells self.old.volume) → self.old.is_broken ≡ false
+            → IsSteady self.old.log (V.files self.old.volume)
+            (V.may_leave self.old.volume (V.moment self.old.volume))
+            → Passes (V.moment self.old.volume) (V.moment self.new.volume)
+            (V.may_leave self.old.volume) (V.may_leave self.new.volume)
+            (Stores (Some (newest_stored self.old.log.file (V.files self.old.volume)
+            self.old.roots self.old.commit))) }
+        ensures steady { IsTrue (V.tells self.old.volume)
+            → IsSteady self.old.log (V.files self.old.volume)
+            (V.may_leave self.old.volume (V.moment self.old.volume))
+            → ¬ (IsErrOf result EnvError.Device)
+            → IsSteady self.new.log (V.files self.new.volume)
+            (V.may_leave self.new.volume (V.moment self.new.volume)) }
+        ensures settled { IsTrue (V.tells self.old.volume)
+            → IsSteady self.old.log (V.files self.old.volume)
+            (V.may_leave self.old.volume (V.moment self.old.volume))
+            → OnOk result (Settled (V.files self.new.volume)
+            (V.may_leave self.new.volume (V.moment self.new.volume))) }
     {
         if self.is_broken {
             return Err(EnvError::Broken);
@@ -178,7 +473,7 @@ impl<V: Volume> Env<V> {
             is_broken,
             ..
         } = self;
-        match log.seal(volume) {
+        match seal_newest(volume, log) {
             Ok(()) => Ok(()),
             Err(LogError::Device) => {
                 *is_broken = true;
@@ -191,21 +486,35 @@ impl<V: Volume> Env<V> {
 
     /// Makes the newest commit outlive a crash, and hands the volume back, which may still have leases out.
     pub fn close(self) -> (V, Result<(), EnvError>)
-        ensures durable { IsTrue (V.tells self.volume) → OnOk result.1 (Outlives self.log
-            (V.files result.0) (V.may_leave result.0 (V.moment result.0))) }
+        ensures durable { IsTrue (V.tells self.volume)
+            → IsSteady self.log (V.files self.volume)
+            (V.may_leave self.volume (V.moment self.volume))
+            → OnOk result.1 (AllStore (Some (newest_stored self.log.file
+            (V.files self.volume) self.roots self.commit))
+            (V.may_leave result.0 (V.moment result.0))) }
         ensures refusals { Refuses self.is_broken (V.faults self.volume)
             (V.faults result.0) result.1 }
         ensures broken_seals_nothing { self.is_broken ≡ true → result.0 ≡ self.volume }
-        ensures bodies_stay { IsTrue (V.tells self.volume)
-            → bodies_up_to self.log.file (V.files result.0)
-            ≡ bodies_up_to self.log.file (V.files self.volume) }
         ensures stays { Stays (V.tells self.volume) (V.tells result.0)
             (V.leases self.volume) (V.leases result.0) (V.refs self.volume) (V.refs result.0)
             (V.faults self.volume) (V.faults result.0) }
 
         // What a crash may leave.
-        ensures leaves { IsTrue (V.tells self.volume) → self.is_broken ≡ false
-            → LeavesSeal V.files V.moment V.may_leave self.log self.volume result.0 }
+        ensures kept { IsTrue (V.tells self.volume)
+            → V.may_leave self.volume (V.moment self.volume) (V.files self.volume)
+            → V.may_leave result.0 (V.moment result.0) (V.files result.0) }
+        ensures crash { IsTrue (V.tells self.volume) → self.is_broken ≡ false
+            → IsSteady self.log (V.files self.volume)
+            (V.may_leave self.volume (V.moment self.volume))
+            → Passes (V.moment self.volume) (V.moment result.0)
+            (V.may_leave self.volume) (V.may_leave result.0)
+            (Stores (Some (newest_stored self.log.file (V.files self.volume)
+            self.roots self.commit))) }
+        ensures settled { IsTrue (V.tells self.volume)
+            → IsSteady self.log (V.files self.volume)
+            (V.may_leave self.volume (V.moment self.volume))
+            → OnOk result.1 (Settled (V.files result.0)
+            (V.may_leave result.0 (V.moment result.0))) }
     {
         let mut env = self;
         let answer = env.sync();

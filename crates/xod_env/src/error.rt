@@ -103,3 +103,23 @@ impl From<EnvError> for FlushError {
         }
     }
 }
+
+impl From<ReadError> for FlushError {
+    ghost use Rattle.xod_env.specs.Errors.{error_of_read, flush_error_of};
+
+    ghost from_gives = { λ cause error. error ≡ flush_error_of (error_of_read cause) };
+
+    fn from(cause: ReadError) -> Self {
+        FlushError::from(EnvError::from(cause))
+    }
+}
+
+impl From<LogError> for FlushError {
+    ghost use Rattle.xod_env.specs.Errors.{error_of_log, flush_error_of};
+
+    ghost from_gives = { λ cause error. error ≡ flush_error_of (error_of_log cause) };
+
+    fn from(cause: LogError) -> Self {
+        FlushError::from(EnvError::from(cause))
+    }
+}

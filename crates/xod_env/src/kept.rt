@@ -2,20 +2,30 @@
 //!
 //! A `Fetch` has no word for the files that it reads, so of a lease that was lent to one only the records are known
 //! again. Here a lease is lent as a `Kept`, whose type says which files it has.
-ghost use Rattle.std.specs.Prelude.{◌≡◌, ◌∷◌, [], ℕ, List};
+ghost use Rattle.std.specs.Prelude.{◌≡◌, ◌<◌, ◌^◌, ◌∷◌, [], ℕ, List, true, Err, IfOk, IfSome, IsSome, IsTrue};
 ghost use Rattle.std.specs.FinMap.{entries, get};
+ghost use Rattle.xod_base.specs.declared.causes.Place.{Place};
+ghost use Rattle.xod_base.specs.declared.causes.ReadError.TheVariants.{Damaged};
 ghost use Rattle.xod_base.specs.Views.{Answers, CountsFaults, least_pair};
-ghost use Rattle.xod_pages.specs.Lent.{KeepsLease};
+ghost use Rattle.xod_block.specs.Bodies.{records_of};
+ghost use Rattle.xod_commit.specs.Blocks.{Fit, all_begin_before, have_tree_numbers};
+ghost use Rattle.xod_overlay.specs.Marks.{touched};
+ghost use Rattle.xod_pages.specs.Lent.{KeepsLease, lent_bodies};
 ghost use Rattle.xod_trie.specs.Least.{passes};
+ghost use Rattle.xod_trie_mut.specs.Changes.{KeysFit};
 ghost use Rattle.xod_volume.specs.Files.{Files, no_files};
+ghost use Rattle.xod_env.specs.Building.{IsBlockOf};
 ghost use Rattle.xod_env.specs.Snapshots.{lent_trie};
 
-use crate::reads::{find_in, walk_in};
+use crate::reads::{build_in, find_in, walk_in};
 use std::alloc::Global;
 use std::marker::{Brand, PhantomData};
 use xod_base::{Bytes, Failed, Pair, ReadError};
 use xod_block::Address;
+use xod_commit::Built;
+use xod_overlay::Overlay;
 use xod_pages::Pages;
+use xod_root::RootList;
 use xod_volume::Lease;
 
 /// Which files a lease has. Each call picks those of its own lease.
@@ -103,4 +113,36 @@ pub(crate) fn walk_kept<L: Lease, H: Holding>(
         files: PhantomData,
     };
     walk_in(alloc, &mut kept, pages, root, key, strict)
+}
+
+/// `build_in` over a lease that has these files. It has them afterwards too.
+pub(crate) fn build_kept<L: Lease, H: Holding>(
+    alloc: Global,
+    lease: &mut L,
+    roots: &RootList,
+    commit: u64,
+    at: Address,
+    changes: &Overlay,
+) -> Result<Built, ReadError>
+    requires list_is { L.list lease.old ≡ H.list }
+    requires lent_is { L.lent lease.old ≡ H.lent }
+    requires numbered { have_tree_numbers (entries roots.now) ≡ true }
+    requires below { all_begin_before at (entries roots.now) ≡ true }
+    requires small { at.at < 2 ^ 63 }
+    requires fit { Fit (touched changes.now) }
+    requires keys_fit { IsTrue (L.tells lease.old) → (tree : ℕ)
+        → IfSome (lent_trie (L.lent lease.old) (get roots.now tree)) KeysFit }
+    ensures built { IfOk result (IsBlockOf (L.tells lease.old)
+        (records_of (lent_bodies (L.lent lease.old))) roots.now commit at (touched changes.now)) }
+    ensures never_damaged { IsTrue (L.tells lease.old)
+        → ((tree : ℕ) → IsSome (lent_trie (L.lent lease.old) (get roots.now tree)))
+        → (place : Place) → ¬ (result ≡ Err (Damaged place)) }
+    ensures counts { CountsFaults (L.faults lease.old) (L.faults lease.new) result }
+    ensures keeps { KeepsLease L.tells L.list L.lent L.refs L.faults lease.old lease.new }
+{
+    let mut kept = Kept::<'_, L, H> {
+        lease,
+        files: PhantomData,
+    };
+    build_in(alloc, &mut kept, roots, commit, at, changes)
 }

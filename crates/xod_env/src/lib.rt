@@ -1,22 +1,28 @@
 //! The environment of a store: its newest commit over the files of a volume, and snapshots to read it by.
 //!
-//! The crates above read a commit through a `Snapshot`, which an `Env` hands out, and learn from `EnvError` and
-//! `FlushError` why a call failed. Nothing here opens a volume or makes a commit yet. What a snapshot has stands in
-//! `specs/Snapshots.antt`, what an environment is open on in `specs/Envs.antt`.
+//! The crates above open an `Env` on a volume, read its newest commit through a `Snapshot`, flush the touched keys of a
+//! transaction to it, and learn from `EnvError` and `FlushError` why a call failed. What a snapshot has stands in
+//! `specs/Snapshots.antt`, what an environment is open on and what a crash leaves of it in `specs/Envs.antt`.
 #![tactic(auto)]
 
 mod bodies;
+mod count;
 mod env;
 mod error;
+mod flush;
 mod flushed;
 mod kept;
 mod laws;
 mod lend;
+mod opening;
+mod parts;
 mod reads;
 mod snapshot;
+mod steady;
 
 pub use env::Env;
 pub use error::{EnvError, FlushError};
 pub use flushed::Flushed;
 pub use laws::{bodies_are_lent_whole, pages_change_no_tree};
 pub use snapshot::Snapshot;
+pub use steady::settled_volumes_are_steady;

@@ -1,0 +1,70 @@
+-- What a flush answers, and what a refusal leaves.
+use Rattle.std.specs.Prelude.{◌≡◌, ◌≢◌, ◌⊎◌, ℕ, Bool, false, IsTrue, List, Some, Result, IsErr, IsErrOf, OnOk}
+use Rattle.std.specs.FinMap.{empty}
+use Rattle.xod_base.specs.Views.{Trees}
+use Rattle.xod_log.specs.declared.error.LogError.{LogError}
+use Rattle.xod_log.specs.declared.error.LogError.TheVariants.{Device}
+use Rattle.xod_log.specs.declared.log.Log.{Log}
+use Rattle.xod_log.specs.Standing.{last_file}
+use Rattle.xod_overlay.specs.Marks.{TouchMap}
+use Rattle.xod_recover.specs.Images.{Stores}
+use Rattle.xod_root.specs.Roots.{Roots}
+use Rattle.xod_volume.specs.Crash.{Passes}
+use Rattle.xod_volume.specs.Files.{Files}
+use Rattle.xod_env.specs.Blocks.{IsNextBlock, trees_with}
+use Rattle.xod_env.specs.Envs.{ArePlaced, IsAt, IsOpenOn, IsSteady, env_trees, newest_stored}
+
+-- no key of any tree is touched
+abbrev pub IsUntouched : (ℕ → TouchMap) → Type 0
+IsUntouched touches = (tree : ℕ) → touches tree ≡ empty
+
+-- the last number that a commit has
+abbrev pub last_commit : ℕ
+last_commit = 18446744073709551615
+
+-- Another commit came: the environment is not broken, a key is touched, and the commit that was seen is not the newest one.
+-- Both are told.
+pub record IsConflict (was_broken : Bool) (touches : ℕ → TouchMap) (base commit seen now : ℕ) : Type 0 where
+  pub whole : was_broken ≡ false
+  pub touched : ¬ (IsUntouched touches)
+  pub other : base ≢ commit
+  pub seen_is : seen ≡ base
+  pub now_is : now ≡ commit
+
+-- which number was the last one: that of a commit, or that of a log file
+abbrev pub IsSpent : ℕ → ℕ → ℕ → Type 0
+IsSpent commit file last = ((commit ≡ last_commit) × (last ≡ last_commit)) ⊎ ((file ≡ last_file) × (last ≡ last_file))
+
+-- The newest commit, its roots and its trees are as they were.
+pub record KeepsCommit (told : Bool) (commit_before commit_now : ℕ) (roots_before roots_now : Roots) (trees_before trees_now : Trees) : Type 0 where
+  pub commit : commit_now ≡ commit_before
+  pub roots : roots_now ≡ roots_before
+  pub trees : IsTrue told → (tree : ℕ) → trees_now tree ≡ trees_before tree
+
+-- What the block of a commit leaves that was written, and what a refusal leaves: of where the environment is open, of its
+-- trees, and of what a crash may leave. The members are those of a volume's trait.
+pub record WritesBlock {V A : Type 0} (files : V → Files) (moment : V → ℕ) (may_leave : V → ℕ → Files → Type 0) (log after : Log) (count counted : ℕ) (block : List ℕ) (back : ℕ) (before now : V) (result : Result A LogError) : Type 0 where
+  pub opened : (roots : Roots) (commit : ℕ) (new_roots : Roots) (new_commit : ℕ)
+      → IsOpenOn log roots commit count (files before) (may_leave before (moment before))
+      → IsNextBlock log (files before) block back new_roots new_commit
+      → OnOk result (IsOpenOn after new_roots new_commit counted (files now) (may_leave now (moment now)))
+  pub kept_open : (roots : Roots) (commit : ℕ)
+      → IsOpenOn log roots commit count (files before) (may_leave before (moment before))
+      → IsErr result → ¬ (IsErrOf result Device)
+      → IsOpenOn after roots commit counted (files now) (may_leave now (moment now))
+  pub new_trees : (roots : Roots) (commit : ℕ) (new_roots : Roots) (new_commit : ℕ)
+      → IsAt log roots commit (files before) (may_leave before (moment before))
+      → IsNextBlock log (files before) block back new_roots new_commit
+      → OnOk result (env_trees after.file (files now) new_roots ≡ trees_with log (files before) block new_roots)
+  pub old_trees : (roots : Roots) (commit : ℕ)
+      → IsAt log roots commit (files before) (may_leave before (moment before))
+      → env_trees log.file (files now) roots ≡ env_trees log.file (files before) roots
+  pub kept : may_leave before (moment before) (files before) → may_leave now (moment now) (files now)
+  pub crash : (roots : Roots) (commit : ℕ)
+      → IsAt log roots commit (files before) (may_leave before (moment before)) → ArePlaced log roots
+      → IsSteady log (files before) (may_leave before (moment before))
+      → Passes (moment before) (moment now) (may_leave before) (may_leave now) (Stores (Some (newest_stored log.file (files before) roots commit)))
+  pub steady : (roots : Roots) (commit : ℕ)
+      → IsAt log roots commit (files before) (may_leave before (moment before))
+      → IsSteady log (files before) (may_leave before (moment before)) → ¬ (IsErrOf result Device)
+      → IsSteady after (files now) (may_leave now (moment now))
