@@ -1,0 +1,3 @@
+pub mod Carry
+pub mod Index
+pub mod Laws
