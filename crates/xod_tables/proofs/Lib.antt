@@ -1,0 +1,14 @@
+pub mod Answering
+pub mod Back
+pub mod CallerLemmas
+pub mod Decide
+pub mod Facts
+pub mod KeyOrders
+pub mod KeysApart
+pub mod KeysOwn
+pub mod KeysRead
+pub mod NameKeys
+pub mod Nothing
+pub mod Orders
+pub mod Touching
+pub mod Written

@@ -1,0 +1,7 @@
+pub mod Keys
+pub mod Laws
+pub mod LookUps
+pub mod Reading
+pub mod Tables
+pub mod Touches
+pub mod Writes
