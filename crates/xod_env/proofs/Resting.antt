@@ -17,13 +17,6 @@ pub left_still : (before now : ℕ) (past images : ℕ → Files → Type 0) →
 left_still before now past images rests left is = subst (λ (n : ℕ). images n left) (sym rests.still) (rests.kept before left is)
 
 module _ (t0 t1 t2 : ℕ) (i0 i1 i2 : ℕ → Files → Type 0) where
-  pub rests_twice : Rests t0 t1 i0 i1 → Rests t1 t2 i1 i2 → Rests t0 t2 i0 i2
-  rests_twice first second = record {
-    still = omega (arith, first.still, second.still);
-    same = λ m c im. first.same m c (second.same m c im);
-    kept = λ m c im. second.kept m c (first.kept m c im);
-  }
-
   module _ (step : Files → Files → Type 0) where
     pub rest_before : Rests t0 t1 i0 i1 → Passes t1 t2 i1 i2 step → Passes t0 t2 i0 i2 step
     rest_before first second = record {

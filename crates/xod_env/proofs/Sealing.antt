@@ -1,13 +1,12 @@
 -- What a seal leaves of an environment: the ends of the current log file alone may differ.
-use Rattle.std.proofs.Common.{◌≡◌, ℕ, ◌+◌, ◌&&◌, Bool, true, false, cond, if◌then◌else◌, None, refl, sym, ◌∙◌, ap, arith, inl, inr}
+use Rattle.std.proofs.Common.{◌≡◌, ℕ, ◌+◌, ◌&&◌, Bool, true, false, cond, None, refl, sym, ◌∙◌, ap, arith, inl, inr}
 use mathlib.Core.Logic.{◌≢◌}
 use Rattle.std.specs.Prelude.{is_some}
 use Rattle.std.specs.FinMap.{contains_key, get, len, get-retain_keys, nat_cmp-IsAntisymmetric}
 use Rattle.std.proofs.lemmas.Bool.{cases_eq}
 use Rattle.std.proofs.lemmas.Bool.Decides.{nat_tests}
-use Rattle.xod_log.specs.declared.log.Log.{Log}
 use Rattle.xod_log.specs.Ends.{ends_of}
-use Rattle.xod_log.specs.Standing.{last_file, sealed_log}
+use Rattle.xod_log.specs.Standing.{last_file}
 use Rattle.xod_volume.specs.Files.{Content, Files}
 use Rattle.xod_volume.proofs.CallerLemmas.{same_files}
 use Rattle.xod_env.specs.Bodies.{is_body_up_to}
@@ -56,24 +55,3 @@ module _ (file : ℕ) (before now : Files) (others : (other : ℕ) → other ≢
         ∙ where_kept (test before number) (get now number) (get before number)
         (λ is. others number (body_apart last_file number file (first_of (is_body_up_to last_file number) (contains_key before (number + 1)) is)))
         ∙ sym (get_body before number)))
-
--- ---- the log
-
--- It has come as far as it had.
-pub record IsAsFar (before now : Log) : Type 0 where
-  pub file : now.file ≡ before.file
-  pub end : now.end ≡ before.end
-  pub back : now.back ≡ before.back
-
-as_far : (log : Log) → IsAsFar log log
-as_far log = record { file = refl; end = refl; back = refl }
-
-either_far : (b : Bool) (log one other : Log) → IsAsFar log one → IsAsFar log other → IsAsFar log (if b then one else other)
-either_far true log one other h k = h
-either_far false log one other h k = k
-
-sealed_far : (log : Log) → IsAsFar log (sealed_log log)
-sealed_far log = either_far log.is_sealed log log (record log { marks = log.marks + 1; is_sealed = true }) (as_far log) (record { file = refl; end = refl; back = refl })
-
-pub answered_far : (b : Bool) (log : Log) → IsAsFar log (if b then sealed_log log else log)
-answered_far b log = either_far b log (sealed_log log) log (sealed_far log) (as_far log)

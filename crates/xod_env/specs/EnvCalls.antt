@@ -3,12 +3,9 @@ use base.Fml.{GName}
 use Rattle.std.specs.Prelude.{◌≡◌, ◌≤◌, ◌↔◌, ℕ, Bool, true, List, Result, IsErrOf, IsTrue}
 use Rattle.xod_base.specs.Causes.{Rose}
 use Rattle.xod_base.specs.declared.causes.Place.{Place}
-use Rattle.xod_log.specs.declared.log.Log.{Log}
-use Rattle.xod_log.specs.Calls.{KeepsClaims, Seals}
-use Rattle.xod_log.specs.Standing.{body_file, ends_file}
 use Rattle.xod_root.specs.Roots.{Roots}
-use Rattle.xod_volume.specs.Crash.{Passes, Rests}
-use Rattle.xod_volume.specs.Files.{Files, bytes_of}
+use Rattle.xod_volume.specs.Crash.{Rests}
+use Rattle.xod_volume.specs.Files.{Files}
 use Rattle.xod_env.specs.declared.error.EnvError.{EnvError}
 use Rattle.xod_env.specs.declared.error.EnvError.TheVariants.{Broken, Device, Damaged, NumbersSpent}
 
@@ -34,12 +31,3 @@ pub record KeepsFiles {V : Type 0} (tells : V → Bool) (files : V → Files) (m
   pub never_falls : faults before ≤ faults now
   pub same : IsTrue (tells before) → files now ≡ files before
   pub rests : IsTrue (tells before) → Rests (moment before) (moment now) (may_leave before) (may_leave now)
-
--- What a seal of the log leaves of the files and of what a crash may leave, whatever it answered. The members are those of
--- a volume's trait.
-pub record LeavesSeal {V : Type 0} (files : V → Files) (moment : V → ℕ) (may_leave : V → ℕ → Files → Type 0) (log : Log) (before now : V) : Type 0 where
-  pub reads : Seals log (bytes_of (files before) (body_file log)) (bytes_of (files before) (ends_file log)) (files before) (files now)
-  pub kept : may_leave before (moment before) (files before) → may_leave now (moment now) (files now)
-  pub leaves : Passes (moment before) (moment now) (may_leave before) (may_leave now)
-      (Seals log (bytes_of (files before) (body_file log)) (bytes_of (files before) (ends_file log)))
-  pub claims : KeepsClaims log (files before) (moment before) (moment now) (may_leave before) (may_leave now)
