@@ -1,0 +1,10 @@
+//! The tests, a module for each subject.
+mod crashes;
+mod damage;
+mod files;
+mod folder;
+mod pinned;
+mod refusals;
+mod seen;
+mod store;
+mod worked;
