@@ -3,7 +3,7 @@ use Rattle.std.proofs.Common.{◌≡◌, ◌+◌, ℕ, List, [], ◌∷◌, leng
 use Rattle.std.specs.Prelude.{IfSome, IsSome, IsTrue, OnErr, Result, Ok, Err}
 use Rattle.std.proofs.lemmas.Bool.{true≢false}
 use Rattle.std.specs.Ordering.{nat_cmp}
-use Rattle.std.specs.FinMap.{empty, entries, get, get-empty, len, len-empty, len-entries}
+use Rattle.std.specs.FinMap.{empty, entries, get, get-empty, len-empty, len-entries}
 use Rattle.std.specs.Option.{option_map, unwrap_or}
 use Rattle.xod_base.specs.Values.{bytes_cmp}
 use Rattle.xod_base.specs.Views.{Tree, Trees}

@@ -1,4 +1,4 @@
-use Rattle.std.proofs.Common.{◌≡◌, false, IsTrue}
+use Rattle.std.proofs.Common.{IsTrue}
 use Rattle.xod_overlay.specs.Marks.{touched}
 use Rattle.xod_env.specs.Envs.{env_trees}
 use Rattle.xod_env_tests.proofs.Keys.{flushed-fit, not-broken, same-trees}

@@ -1,4 +1,4 @@
-use Rattle.std.proofs.Common.{◌≡◌, ℕ, false, is_ok, sym, ap, ◌∙◌, IsTrue}
+use Rattle.std.proofs.Common.{ℕ, is_ok, ap, ◌∙◌, IsTrue}
 use Rattle.xod_base.specs.Views.{Trees}
 use Rattle.xod_root.specs.Roots.{Roots}
 use Rattle.xod_env.specs.Envs.{env_trees}

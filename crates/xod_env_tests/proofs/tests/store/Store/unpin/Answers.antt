@@ -1,4 +1,4 @@
-use Rattle.std.proofs.Common.{◌≡◌, false, sym, ap, ◌∙◌, IsTrue}
+use Rattle.std.proofs.Common.{sym, ap, ◌∙◌, IsTrue}
 use Rattle.xod_log.specs.declared.log.Log.{Log}
 use Rattle.xod_env_tests.proofs.Keys.{kept-fit}
 use Rattle.xod_env_tests.proofs.tests.store.Store.unpin.Goals as goal
