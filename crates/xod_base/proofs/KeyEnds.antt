@@ -7,11 +7,11 @@ use Rattle.xod_base.specs.Laws.{EachKeyShowsItsEnd}
 use Rattle.xod_base.proofs.ByteOrder.{NoZero}
 use Rattle.xod_base.proofs.KeyOrder.{text_no_zero}
 
-abbrev first : List ℕ → ℕ
+abbrev pub first : List ℕ → ℕ
 first [] = 0
 first (x ∷ xs) = x
 
-abbrev rest : List ℕ → List ℕ
+abbrev pub rest : List ℕ → List ℕ
 rest [] = []
 rest (x ∷ xs) = xs
 

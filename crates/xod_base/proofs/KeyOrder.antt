@@ -26,7 +26,7 @@ text_no_zero bytes h = folded_no_zero bytes (second_so (is_utf8 bytes) (list_all
 
 -- ---- integers
 
-biased_lt : (number : ℤ) → IsTrue (is_int number) → biased number < 2 ^ 64
+pub biased_lt : (number : ℤ) → IsTrue (is_int number) → biased number < 2 ^ 64
 biased_lt (pos n) h = grind (arith, nat_tests)
 biased_lt (negsuc n) h = grind (arith, nat_tests)
 

@@ -1,6 +1,7 @@
 pub mod Causes
 pub mod Evaluation
 pub mod Ids
+pub mod KeyTexts
 pub mod Laws
 pub mod Names
 pub mod Queries

@@ -8,6 +8,7 @@
 mod answer;
 mod causes;
 mod ids;
+mod key;
 mod laws;
 mod limits;
 mod listed;
@@ -23,7 +24,7 @@ pub use answer::{
 };
 pub use causes::{Cause, Failed, Memory, Place, ReadError};
 pub use ids::IdList;
-pub use laws::{keys_are_in_the_order_of_values, no_key_begins_another};
+pub use laws::{keys_are_in_the_order_of_values, keys_are_read_back, no_key_begins_another};
 pub use limits::{
     DEEPEST_QUERY, INPUT_LIMIT, LONGEST_NAME, LONGEST_SESSION_NAME, LONGEST_TEXT, MOST_LOCALS,
     MOST_NAMES, MOST_PARTS, MOST_SESSIONS, MOST_TRIES,

@@ -1,6 +1,7 @@
 //! A text: UTF-8 without control characters.
 //!
-//! Names and texts of properties are of this type, so no clause repeats that they are text.
+//! Names and texts of properties are of this type, so no clause repeats that they are text. A copy of a text is the same
+//! piece of memory once more.
 ghost use Rattle.std.specs.Prelude.{◌≡◌, ◌↔◌, IsTrue, IfOk, MatchOption, false, length, nat_eq, not};
 ghost use Rattle.std.specs.Cmp.Lexicographic.{pointwise};
 ghost use Rattle.std.specs.List.{list_all};
@@ -10,23 +11,25 @@ ghost use Rattle.xod_base.specs.Text.{is_control as control_test, is_text};
 use crate::Memory;
 use std::alloc::Global;
 use std::marker::Model;
+use std::sync::Arc;
 
 /// A list of bytes that are UTF-8 without U+0000 to U+001F and U+007F.
 #[derive(Debug, Drop)]
 pub struct Text {
-    bytes: Vec<u8>,
+    bytes: Arc<Vec<u8>>,
 }
 
 impl Model for Text {
     ghost use Rattle.std.specs.Prelude.{◌≡◌, List, ℕ, IsTrue};
+    ghost use Rattle.std.specs.Arc.{arc_value};
 
     ghost Value = { List ℕ };
 
     ghost use Rattle.xod_base.specs.Text.{is_text};
 
-    ghost view = { λ text. text.bytes.items };
+    ghost view = { λ text. (arc_value text.bytes).items };
 
-    ghost invariant = { λ text. IsTrue (is_text text.bytes.items) };
+    ghost invariant = { λ text. IsTrue (is_text (arc_value text.bytes).items) };
 }
 
 /// Whether a byte is a control character by itself.
@@ -66,7 +69,7 @@ impl Text {
             return Ok(None);
         }
         Ok(Some(Text {
-            bytes: Vec::from_slice(alloc, bytes)?,
+            bytes: Arc::new(alloc, Vec::from_slice(alloc, bytes)?)?,
         }))
     }
 
@@ -85,13 +88,13 @@ impl Text {
         self.bytes.len()
     }
 
-    /// A text with the same bytes.
+    /// A text with the same bytes, which are not copied.
     pub fn try_clone(&self, alloc: Global) -> Result<Text, Memory>
         ensures equal { IfOk result (λ text. text ≡ self.now) }
         ensures text { IsTrue (is_text self.now) }
     {
         Ok(Text {
-            bytes: Vec::from_slice(alloc, &self.bytes)?,
+            bytes: Arc::try_clone(&self.bytes)?,
         })
     }
 

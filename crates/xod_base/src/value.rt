@@ -24,7 +24,7 @@ pub enum Value {
     Text(Text),
 }
 
-const SIGN_BIT: u64 = 1 << 63;
+pub(crate) const SIGN_BIT: u64 = 1 << 63;
 
 /// An integer with its highest bit turned over, so that numbers rise as integers do.
 fn biased(number: i64) -> u64
