@@ -2,6 +2,8 @@ mod Marked
 mod Merges
 mod Pieced
 mod Placed
+mod Restored
+mod Taken
 mod Trees
 mod Views
 mod Walked

@@ -159,7 +159,7 @@ seat_is key pieces (suc n) h le begun =
 
 -- ---- what a key has in its piece, it has among all
 
-behind_first : (key : List ℕ) (e : Touch) → IsBefore key e → bytes_cmp key e.0 ≡ Greater
+pub behind_first : (key : List ℕ) (e : Touch) → IsBefore key e → bytes_cmp key e.0 ≡ Greater
 behind_first key e less = order.antisymm key e.0 ∙ ap ordering_reverse less
 
 find-before : (key : List ℕ) (es fs : List Touch) → All (IsBefore key) es → find bytes_cmp key (es ++ fs) ≡ find bytes_cmp key fs
@@ -216,13 +216,13 @@ put-behind key mark (e ∷ es) fs h =
 
 -- ---- pieces by their place
 
-joined-set : (pieces : List (List Touch)) (at : ℕ) (piece : List Touch) → at < length pieces → joined (set pieces at piece) ≡ joined (take at pieces) ++ (piece ++ joined (drop (suc at) pieces))
+pub joined-set : (pieces : List (List Touch)) (at : ℕ) (piece : List Touch) → at < length pieces → joined (set pieces at piece) ≡ joined (take at pieces) ++ (piece ++ joined (drop (suc at) pieces))
 joined-set [] at piece lt = absurd (omega arith)
 joined-set (p ∷ pieces) zero piece lt = refl
 joined-set (p ∷ pieces) (suc at) piece lt = ap (λ (l : List Touch). p ++ l) (joined-set pieces at piece (omega arith)) ∙ sym (append_assoc p _ _)
 
 -- all touches, by those before a piece, in it, and behind it
-joined_at : (pieces : List (List Touch)) (at : ℕ) (d : List Touch) → at < length pieces → joined pieces ≡ joined (take at pieces) ++ (get_or pieces at d ++ joined (drop (suc at) pieces))
+pub joined_at : (pieces : List (List Touch)) (at : ℕ) (d : List Touch) → at < length pieces → joined pieces ≡ joined (take at pieces) ++ (get_or pieces at d ++ joined (drop (suc at) pieces))
 joined_at pieces at d lt = ap (λ (ps : List (List Touch)). joined ps) (sym (set-get_or pieces at d)) ∙ joined-set pieces at (get_or pieces at d) lt
 
 pub find_at : (key : List ℕ) (pieces : List (List Touch)) (at : ℕ) (d : List Touch) → IsSeat key pieces at → at < length pieces → find bytes_cmp key (joined pieces) ≡ find bytes_cmp key (get_or pieces at d)

@@ -92,6 +92,10 @@ set_back trees tree lt other = elim (cases_eq other tree) [
   | inr apart ↦ get_or-set_other trees tree other (get_or trees tree empty) empty apart
 ]
 
+-- the touched keys of a tree in a list that has it
+pub touched_at : (before trees : List TouchMap) (tree : ℕ) (now : TouchMap) → touched trees ≡ touched before → tree < length trees → now ≡ get_or trees tree now → now ≡ touched before tree
+touched_at before trees tree now same lt now_is = now_is ∙ get_or_default trees tree now empty lt ∙ ap (λ (f : ℕ → TouchMap). f tree) same
+
 -- a call that touches one tree, or leaves it
 pub touched-touch : (before trees : List TouchMap) (tree : ℕ) (key : List ℕ) (mark : Mark) (now after : TouchMap) (ok : Bool)
     → touched trees ≡ touched before → tree < length trees → now ≡ get_or trees tree now → after ≡ cond ok (insert now key mark) now

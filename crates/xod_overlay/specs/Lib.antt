@@ -3,3 +3,4 @@ pub mod Marks
 pub mod Merging
 pub mod Pieces
 pub mod Places
+pub mod Restoring

@@ -6,6 +6,7 @@ use Rattle.std.specs.Option.{option_map, option_copied}
 use Rattle.xod_base.specs.Values.{bytes_cmp}
 use Rattle.xod_base.specs.Views.{Tree, Trees, Test, above}
 use Rattle.xod_overlay.specs.declared.overlay.Touched.{Touched}
+use Rattle.xod_overlay.specs.declared.write.Write.{Write}
 
 -- what stands at a touched key: a value, or None where the key is removed
 abbrev pub Mark : Type 0
@@ -26,6 +27,11 @@ touched trees tree = slice_index_or trees tree empty
 -- one key more is touched in one tree, or has another mark there; a key that was touched stays touched
 abbrev pub touching : (ℕ → TouchMap) → ℕ → List ℕ → Mark → ℕ → TouchMap
 touching before tree key mark other = if nat_eq other tree then insert (before tree) key mark else before other
+
+-- the touched keys of each tree after a list of writes, the first one first
+abbrev pub all_touching : (ℕ → TouchMap) → List Write → ℕ → TouchMap
+all_touching touches [] = touches
+all_touching touches (write ∷ more) = all_touching (touching touches write.tree write.key write.value) more
 
 -- the first touch of a list whose key passes
 abbrev pub first_touch : Test → List Touch → Option Touch

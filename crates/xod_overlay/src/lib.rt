@@ -11,6 +11,8 @@ mod overlay;
 mod piece;
 mod rest;
 mod sorted;
+mod write;
+mod writing;
 
 pub use laws::{
     puts_show, removals_show, touched_keys_decide, untouched_trees_are_those_below,
@@ -18,3 +20,4 @@ pub use laws::{
 };
 pub use overlaid::Overlaid;
 pub use overlay::{Overlay, Touched};
+pub use write::{Write, WriteList};

@@ -1,10 +1,11 @@
 //! The touched keys of all trees.
-ghost use Rattle.std.specs.Prelude.{◌≡◌, ◌↔◌, ◌<◌, ℕ, List, Some, None, length, slice_get, IsTrue, OnOk, is_ok, if◌then◌else◌};
+ghost use Rattle.std.specs.Prelude.{◌≡◌, ◌↔◌, ◌<◌, ℕ, List, Some, None, length, slice_get, IsTrue, IfOk, OnOk, is_ok, if◌then◌else◌};
 ghost use Rattle.std.specs.FinMap.{empty, entries, get as mark_of};
 ghost use Rattle.std.specs.Option.{option_copied, option_map, unwrap_or};
 ghost use Rattle.xod_overlay.specs.Marks.{above_any, least_touch, touch_of, touched, touching};
 ghost use Rattle.xod_overlay.specs.Pieces.{rest_of};
 ghost use Rattle.xod_overlay.specs.Places.{from, passes};
+ghost use Rattle.xod_overlay.specs.Restoring.{restoring};
 
 use crate::rest::Rest;
 use crate::sorted::TouchedKeys;
@@ -114,18 +115,30 @@ impl Overlay {
         are_untouched(self.trees.as_slice())
     }
 
-    /// Touches a key with a value, or with a removal mark.
-    fn touch(
+    /// Touches a key with a value, or with a removal mark, and hands out what stood there, `None` where it was not
+    /// touched. A refusal leaves the overlay as it was.
+    pub(crate) fn exchange(
         &mut self,
         alloc: Global,
         tree: u8,
         key: &[u8],
         mark: Option<Bytes>,
-    ) -> Result<(), Memory>
-        ensures { touched self.new ≡ (if is_ok result then touching (touched self.old) tree key.now mark else touched self.old) }
+    ) -> Result<Option<Option<Bytes>>, Memory>
+        ensures touches { touched self.new ≡ (if is_ok result then touching (touched self.old) tree key.now mark else touched self.old) }
+        ensures before { IfOk result (λ before. before ≡ mark_of (touched self.old tree) key.now) }
     {
         make_room(&mut self.trees, alloc, tree)?;
-        self.trees[tree as usize].touch(alloc, key, mark)
+        self.trees[tree as usize].exchange(alloc, key, mark)
+    }
+
+    /// Gives a touched key the mark that stood there before, or takes it out where it was not touched. Takes no memory.
+    pub(crate) fn restore(&mut self, tree: u8, key: &[u8], before: Option<Option<Bytes>>)
+        ensures { touched self.new ≡ restoring (touched self.old) tree key.now before }
+    {
+        if self.trees.len() <= tree as usize {
+            return;
+        }
+        self.trees[tree as usize].restore(key, before);
     }
 
     /// Puts a value at a key of a tree. A refusal leaves the overlay as it was.
@@ -133,14 +146,16 @@ impl Overlay {
         ensures { touched self.new ≡ (if is_ok result then touching (touched self.old) tree key.now (Some value.now) else touched self.old) }
     {
         let value = Bytes::from_vec(Vec::from_slice(alloc, value)?);
-        self.touch(alloc, tree, key, Some(value))
+        self.exchange(alloc, tree, key, Some(value))?;
+        Ok(())
     }
 
     /// Removes a key of a tree, whether or not it is there. A refusal leaves the overlay as it was.
     pub fn remove(&mut self, alloc: Global, tree: u8, key: &[u8]) -> Result<(), Memory>
         ensures { touched self.new ≡ (if is_ok result then touching (touched self.old) tree key.now None else touched self.old) }
     {
-        self.touch(alloc, tree, key, None)
+        self.exchange(alloc, tree, key, None)?;
+        Ok(())
     }
 
     /// What stands at a touched key: a value, or none where it is removed. `None` exactly where it is not touched.

@@ -1,16 +1,18 @@
 //! A piece of the touched keys of one tree, by rising key.
 //!
 //! A key is looked up by halving. That needs no key of its own, so nothing here takes memory but a new touch and a cut.
-ghost use Rattle.std.specs.Prelude.{◌≡◌, ◌≤◌, ◌/◌, nat_le, length, not, take, drop, T, IfOk, List, [], ◌∷◌, is_ok, if◌then◌else◌, slice_get};
+ghost use Rattle.std.specs.Prelude.{◌≡◌, ◌≤◌, ◌/◌, ◌==◌, nat_le, length, not, take, drop, T, IfOk, List, [], ◌∷◌, is_ok, if◌then◌else◌, slice_get};
 ghost use Rattle.std.specs.FinMap.{find, is_sorted, put};
 ghost use Rattle.std.specs.Option.{option_copied};
 ghost use Rattle.xod_base.specs.Values.{bytes_cmp};
 ghost use Rattle.xod_overlay.specs.Pieces.{begins_by, is_full_without};
 ghost use Rattle.xod_overlay.specs.Places.{from, mark_at, passes, place, stands};
+ghost use Rattle.xod_overlay.specs.Restoring.{restored};
 
 use std::alloc::Global;
 use std::cmp::Ordering;
 use std::marker::Model;
+use std::mem::replace;
 use xod_base::{Bytes, Memory};
 
 /// A touched key, and its value or, where it is removed, none.
@@ -83,7 +85,7 @@ impl Piece {
         let mut piece = Piece {
             touches: Vec::new(alloc),
         };
-        piece.touch(alloc, key, mark)?;
+        piece.exchange(alloc, key, mark)?;
         Ok(piece)
     }
 
@@ -138,25 +140,52 @@ impl Piece {
         mark_of_key(self.touches.as_slice(), at, key)
     }
 
-    /// Touches a key, in place of what stood there. A refusal leaves the piece as it was.
-    pub(crate) fn touch(
+    /// Touches a key, and hands out what stood there, `None` where it was not touched. A refusal leaves the piece as it
+    /// was.
+    pub(crate) fn exchange(
         &mut self,
         alloc: Global,
         key: &[u8],
         mark: Option<Bytes>,
-    ) -> Result<(), Memory>
+    ) -> Result<Option<Option<Bytes>>, Memory>
         requires { T (is_sorted bytes_cmp self.old) }
-        ensures { self.new
+        ensures touches { self.new
             ≡ (if is_ok result then put bytes_cmp key.now mark self.old else self.old) }
+        ensures before { IfOk result (λ before. before ≡ find bytes_cmp key.now self.old) }
     {
         let at = place_of(self.touches.as_slice(), key, false);
         if stands_at(self.touches.as_slice(), at, key) {
-            self.touches[at].1 = mark;
-            return Ok(());
+            let before = replace(&mut self.touches[at].1, mark);
+            return Ok(Some(before));
         }
         let key = Bytes::from_vec(Vec::from_slice(alloc, key)?);
         self.touches.insert(at, (key, mark))?;
-        Ok(())
+        Ok(None)
+    }
+
+    /// Gives a touched key the mark that stood there before, or takes it out where it was not touched. Takes no memory,
+    /// and does nothing where the key is not touched.
+    pub(crate) fn restore(&mut self, key: &[u8], before: Option<Option<Bytes>>)
+        requires { T (is_sorted bytes_cmp self.old) }
+        ensures { self.new ≡ restored key.now before self.old }
+    {
+        let at = place_of(self.touches.as_slice(), key, false);
+        if !stands_at(self.touches.as_slice(), at, key) {
+            return;
+        }
+        match before {
+            None => {
+                self.touches.remove(at);
+            }
+            Some(mark) => self.touches[at].1 = mark,
+        }
+    }
+
+    /// Whether the piece has no touch.
+    pub(crate) fn is_empty(&self) -> bool
+        ensures { result ≡ (length self.now == 0) }
+    {
+        self.touches.is_empty()
     }
 
     /// Cuts the piece in two: keeps the first half, and hands out the other. A refusal leaves the piece as it was.

@@ -9,6 +9,7 @@ ghost use Rattle.std.specs.Option.{option_copied};
 ghost use Rattle.xod_base.specs.Values.{bytes_cmp};
 ghost use Rattle.xod_overlay.specs.Pieces.{begins_by, is_full_without, joined, rest_of, with_cut, IsInPieces, IsSeat};
 ghost use Rattle.xod_overlay.specs.Places.{from, passes};
+ghost use Rattle.xod_overlay.specs.Restoring.{restored, restored_keys};
 
 use crate::piece::Piece;
 use crate::rest::Rest;
@@ -113,26 +114,45 @@ fn seat_with_room(pieces: &mut Vec<Piece>, key: &[u8]) -> Result<usize, Memory>
     Ok(half_of(pieces.as_slice(), at, key))
 }
 
-/// Touches a key in some pieces, in place of what stood there. A refusal leaves the touches as they were.
-fn touch_in(
+/// Touches a key in some pieces, and hands out what stood there. A refusal leaves the touches as they were.
+fn exchange_in(
     pieces: &mut Vec<Piece>,
     alloc: Global,
     key: &[u8],
     mark: Option<Bytes>,
-) -> Result<(), Memory>
+) -> Result<Option<Option<Bytes>>, Memory>
     requires { IsInPieces pieces.old.items }
     ensures in_pieces { IsInPieces pieces.new.items }
     ensures touches { joined pieces.new.items
         ≡ (if is_ok result then put bytes_cmp key.now mark (joined pieces.old.items)
         else joined pieces.old.items) }
+    ensures before { IfOk result (λ before.
+        before ≡ find bytes_cmp key.now (joined pieces.old.items)) }
 {
     if pieces.is_empty() {
         pieces.push(Piece::of_one(alloc, key, mark)?)?;
-        return Ok(());
+        return Ok(None);
     }
     let at = seat_with_room(pieces, key)?;
-    pieces[at].touch(alloc, key, mark)?;
-    Ok(())
+    let before = pieces[at].exchange(alloc, key, mark)?;
+    Ok(before)
+}
+
+/// Gives a touched key in some pieces the mark that stood there before, or takes it out where it was not touched. A piece
+/// that gets empty goes.
+fn restore_in(pieces: &mut Vec<Piece>, key: &[u8], before: Option<Option<Bytes>>)
+    requires { IsInPieces pieces.old.items }
+    ensures in_pieces { IsInPieces pieces.new.items }
+    ensures touches { joined pieces.new.items ≡ restored key.now before (joined pieces.old.items) }
+{
+    if pieces.is_empty() {
+        return;
+    }
+    let at = seat_of(pieces.as_slice(), key);
+    pieces[at].restore(key, before);
+    if pieces[at].is_empty() {
+        pieces.remove(at);
+    }
 }
 
 impl TouchedKeys {
@@ -173,15 +193,23 @@ impl TouchedKeys {
         mark_in(self.pieces.as_slice(), key)
     }
 
-    /// Touches a key, in place of what stood there. A refusal leaves all as it was.
-    pub(crate) fn touch(
+    /// Touches a key, and hands out what stood there, `None` where it was not touched. A refusal leaves all as it was.
+    pub(crate) fn exchange(
         &mut self,
         alloc: Global,
         key: &[u8],
         mark: Option<Bytes>,
-    ) -> Result<(), Memory>
-        ensures { self.new ≡ (if is_ok result then insert self.old key.now mark else self.old) }
+    ) -> Result<Option<Option<Bytes>>, Memory>
+        ensures keys { self.new ≡ (if is_ok result then insert self.old key.now mark else self.old) }
+        ensures before { IfOk result (λ before. before ≡ mark_of self.old key.now) }
     {
-        touch_in(&mut self.pieces, alloc, key, mark)
+        exchange_in(&mut self.pieces, alloc, key, mark)
+    }
+
+    /// Gives a touched key the mark that stood there before, or takes it out where it was not touched. Takes no memory.
+    pub(crate) fn restore(&mut self, key: &[u8], before: Option<Option<Bytes>>)
+        ensures { self.new ≡ restored_keys self.old key.now before }
+    {
+        restore_in(&mut self.pieces, key, before)
     }
 }
