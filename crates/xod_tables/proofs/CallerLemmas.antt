@@ -20,3 +20,5 @@ pub use Rattle.xod_tables.proofs.NameKeys.{Lacks, one_number, one_kind, kinds_pr
 pub use Rattle.xod_tables.proofs.Answering.{sound_answer}
 -- writes in an overlay
 pub use Rattle.xod_tables.proofs.Touching.{touches_show}
+-- what a change of a property leaves in the index
+pub use Rattle.xod_tables.proofs.Changed.{new_keys_stand}

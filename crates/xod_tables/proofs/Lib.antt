@@ -1,6 +1,7 @@
 pub mod Answering
 pub mod Back
 pub mod CallerLemmas
+pub mod Changed
 pub mod Decide
 pub mod Facts
 pub mod KeyOrders

@@ -7,7 +7,8 @@ use Rattle.xod_base.specs.Views.{Tree, Trees}
 use Rattle.xod_overlay.specs.Laws.{PutsShow, RemovalsShow}
 use Rattle.xod_overlay.specs.Marks.{Mark, TouchMap, touching, overlaid, overlaid_trees}
 use Rattle.xod_tables.specs.Touches.{TouchesShowAsWrites}
-use Rattle.xod_tables.specs.Writes.{Write, with_key, after_write, after_writes}
+use Rattle.xod_overlay.specs.declared.write.Write.{Write}
+use Rattle.xod_tables.specs.Writes.{with_key, after_write, after_writes}
 
 module _ (puts : PutsShow) (removals : RemovalsShow) where
   shows : (base : Tree) (touches : TouchMap) (key : List ℕ) (mark : Mark) → overlaid base (insert touches key mark) ≡ with_key (overlaid base touches) key mark

@@ -7,14 +7,9 @@ use Rattle.xod_base.specs.declared.value.Value.{Value}
 use Rattle.xod_base.specs.declared.answer.NameKind.{NameKind}
 use Rattle.xod_base.specs.Values.{keys_of}
 use Rattle.xod_base.specs.Views.{Tree, Trees}
+use Rattle.xod_overlay.specs.declared.write.Write.{Write}
 use Rattle.xod_tables.specs.Keys.{u32, u64, name_key, number_key, next_key, entity_key, property_key, index_key, link_key, back_key, stored}
 use Rattle.xod_tables.specs.declared.trees.TheConstants.{NAMES, NUMBERS, NEXT, ENTITIES, PROPERTIES, INDEX, LINKS, BACK}
-
--- a write: a key of a tree gets a value, or goes where there is none
-pub record Write : Type 0 where
-  pub tree : ℕ
-  pub key : List ℕ
-  pub value : Option (List ℕ)
 
 -- a key gets a value
 abbrev pub put : ℕ → List ℕ → List ℕ → Write

@@ -1,4 +1,5 @@
 //! Laws of tables and of the rows that they are read as; nothing here runs.
+ghost use Rattle.xod_tables.specs.Changes.{NewKeysStand};
 ghost use Rattle.xod_tables.specs.Touches.{TouchesShowAsWrites};
 ghost use Rattle.xod_tables.specs.Laws.{
   EmptyTreesAreNoRows,
@@ -66,3 +67,8 @@ pub fn touches_show_as_writes()
     xod_overlay::puts_show();
     xod_overlay::removals_show();
 }
+
+/// Where the old and the new value of a property have a key in common, the key stays in the index.
+pub fn new_keys_stand()
+    ensures { NewKeysStand }
+{}

@@ -8,7 +8,7 @@ mod laws;
 mod trees;
 
 pub use laws::{
-    empty_trees_are_no_rows, fronts_decide, keys_are_apart, keys_rise, one_rows,
+    empty_trees_are_no_rows, fronts_decide, keys_are_apart, keys_rise, new_keys_stand, one_rows,
     rows_are_read_exactly, sound_rows_have_tables, sound_trees_answer, tables_are_tested,
     touches_show_as_writes,
 };

@@ -13,7 +13,8 @@ use Rattle.xod_base.specs.Views.{Tree, Trees}
 use Rattle.xod_journal.specs.Changes.{with_next}
 use Rattle.xod_tables.specs.Keys.{IsShort, name_key, number_key, next_key, entity_key, property_key, index_key, link_key, back_key, stored, u32, u64}
 use Rattle.xod_tables.specs.Tables.{AreTables, names_tree, numbers_tree, next_tree, entities_tree, properties_tree, index_tree, links_tree, back_tree}
-use Rattle.xod_tables.specs.Writes.{Write, after_write, after_writes, with_key, name_writes, id_writes, id_removals, value_writes, link_writes, link_removals}
+use Rattle.xod_overlay.specs.declared.write.Write.{Write}
+use Rattle.xod_tables.specs.Writes.{after_write, after_writes, with_key, name_writes, id_writes, id_removals, value_writes, link_writes, link_removals}
 use Rattle.xod_tables.specs.declared.trees.TheConstants.{NAMES, NUMBERS, NEXT, ENTITIES, PROPERTIES, INDEX, LINKS, BACK}
 use Rattle.xod_tables.proofs.CallerLemmas.{HasKey, HaveKeys, HasLinkKey, HaveLinkKeys}
 use Rattle.xod_writes.proofs.NameTrees.{types_by_number, types_by_name, props_by_number, props_by_name, links_by_number, links_by_name}

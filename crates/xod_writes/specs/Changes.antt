@@ -7,7 +7,8 @@ use Rattle.xod_base.specs.Rows.{RowsValue, is_listed}
 use Rattle.xod_journal.specs.declared.change.RowChange.{RowChange}
 use Rattle.xod_journal.specs.declared.change.RowChange.TheVariants.{AddEntity, RemoveEntity, Prop, LinkAdd, LinkDel}
 use Rattle.xod_journal.specs.Changes.{kind_number, applied}
-use Rattle.xod_tables.specs.Writes.{Write, name_writes, id_writes, id_removals, value_writes, link_writes, link_removals}
+use Rattle.xod_overlay.specs.declared.write.Write.{Write}
+use Rattle.xod_tables.specs.Writes.{name_writes, id_writes, id_removals, value_writes, link_writes, link_removals}
 
 -- the number of a name in a list: its place, and the list's end for a new one
 abbrev pub number_for : List (List ℕ) → List ℕ → ℕ
