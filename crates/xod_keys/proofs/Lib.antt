@@ -1,0 +1,5 @@
+pub mod CallerLemmas
+mod IntegersRead
+mod KeysRead
+mod Pushed
+mod ReadWalks
