@@ -1,0 +1,10 @@
+pub mod Bounds
+pub mod Entities
+pub mod Links
+pub mod LinksListed
+pub mod Names
+pub mod Props
+pub mod PropsAll
+pub mod PropsBetween
+pub mod PropsRising
+pub mod Ranging
