@@ -1,0 +1,14 @@
+use Rattle.xod_base.specs.Views.{Entry}
+use Rattle.xod_tables.specs.Keys.{link_key}
+use Rattle.xod_keys.specs.Pieces.{link_read}
+use Rattle.xod_keys.specs.Readings.{LAST, first_id, last_id}
+use Rattle.xod_keys.proofs.CallerLemmas.{Walked}
+use Rattle.xod_links.proofs.reading.links_of.Given as goal
+
+abbrev pub invariant-walk : goal.invariant-walk
+invariant-walk g l =
+    Walked g.T.TreeView.tells g.T.TreeView.trees g.T.TreeView.commit g.T.TreeView.refs g.T.TreeView.faults l.fn.tree (λ (entry : Entry). link_read entry.0)
+    (link_key l.fn.id 0 first_id) (link_key l.fn.id LAST last_id) l.initial.view l.view l.range l.links
+
+abbrev pub decreases-walk : goal.decreases-walk
+decreases-walk g l = l.range.left

@@ -1,0 +1,10 @@
+use Rattle.std.proofs.Common.{[], ◌∷◌, ◌++◌, ◌∙◌}
+use Rattle.xod_tables.specs.Writes.{put}
+use Rattle.xod_tables.specs.declared.trees.TheConstants.{BACK, LINKS}
+use Rattle.xod_keys.proofs.CallerLemmas.{two_pushed}
+use Rattle.xod_links.proofs.writing.push_link.Goals as goal
+
+pub returns : goal.returns
+returns c = two_pushed _ _ _
+    (c.in_ok-push_put.ensures ∙ λ i. c.args.writes.now ++ put LINKS (c.link_key.ensures i) [] ∷ [])
+    (c.in_ok-push_put-2.ensures ∙ λ i. c.push_put.new.writes ++ put BACK (c.link_key-2.ensures i) [] ∷ [])
