@@ -1,0 +1,8 @@
+mod LinkParts
+mod Listing
+mod NameLemmas
+mod Named
+mod Orders
+mod SortedParts
+mod Told
+mod ValueParts

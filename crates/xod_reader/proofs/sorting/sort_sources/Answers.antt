@@ -1,0 +1,12 @@
+use Rattle.std.proofs.Common.{rules, subst, sym}
+use Rattle.std.specs.List.Sorted.{IsSorted}
+use Rattle.std.specs.Ordering.{is_lt}
+use Rattle.std.proofs.lemmas.Fn.{always_returns_same}
+use Rattle.std.proofs.lemmas.List.Sorted.{ranks_by}
+use Rattle.xod_reader.specs.Orders.{by_end_and_name}
+use Rattle.xod_reader.proofs.Orders.{by_end_and_name_total}
+use Rattle.xod_reader.proofs.sorting.sort_sources.Goals as goal
+
+pub returns-clause-sorted : goal.returns-clause-sorted
+returns-clause-sorted c = subst (IsSorted by_end_and_name) (sym c.from_vec.ensures)
+    (c.sort_unstable_by.ensures.sorted (λ a b. is_lt (by_end_and_name a b)) (ranks_by by_end_and_name_total (λ r. r)) (always_returns_same _ _ _ (λ a r f k. search rules)))

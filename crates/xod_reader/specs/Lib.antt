@@ -1,0 +1,5 @@
+pub mod Named
+pub mod Naming
+pub mod Orders
+pub mod Slots
+pub mod Told
