@@ -1,0 +1,10 @@
+mod DeletePlans
+mod Expanding
+mod Fitting
+mod Going
+mod LinkPlans
+mod Lists
+mod Looking
+mod NewPlans
+mod SetPlans
+mod Sound
