@@ -1,0 +1,6 @@
+//! What a transaction keeps beside its view of the trees: the names of the types, and later the answers of queries.
+#![tactic(auto)]
+
+mod adapter;
+
+pub use adapter::Adapter;
