@@ -1,0 +1,4 @@
+mod Acting
+mod Changes
+mod Moving
+mod Showing
