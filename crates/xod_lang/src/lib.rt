@@ -5,6 +5,7 @@
 
 mod items;
 mod line;
+mod pool;
 mod read;
 mod reading;
 mod script;

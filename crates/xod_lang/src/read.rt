@@ -9,6 +9,7 @@ ghost use Rattle.xod_lang.specs.Reads.{GoesOnAt, ReadsScript};
 ghost use Rattle.xod_lang.specs.Scripts.{line_of, script_of, with_line};
 ghost use Rattle.xod_lang.specs.WellFormed.{is_well_formed};
 
+use crate::pool::Pool;
 use crate::reading::Reading;
 use crate::script::{Script, ScriptError};
 use std::alloc::Global;
@@ -50,13 +51,14 @@ fn next_line(bytes: &[u8]) -> (&[u8], &[u8])
 fn add_line(
     alloc: Global,
     reading: &mut Reading,
+    pool: &mut Pool,
     line: u32,
     bytes: &[u8],
 ) -> Result<(), ScriptError>
     ensures { GoesOnAt line result reading.new
         (option_and_then (with_line reading.old line) (line_of bytes.now)) }
 {
-    match reading.add_bytes(alloc, line, bytes) {
+    match reading.add_bytes(alloc, pool, line, bytes) {
         Ok(()) => Ok(()),
         Err(Unread::Bad) => Err(ScriptError::Line { line }),
         Err(Unread::Memory) => Err(ScriptError::Memory),
@@ -68,12 +70,13 @@ fn read_lines(alloc: Global, bytes: &[u8]) -> Result<Script, ScriptError>
     requires { length bytes.now ≤ INPUT_LIMIT }
     ensures { ReadsScript result (script_of bytes.now) }
 {
+    let mut pool = Pool::new(alloc)?;
     let mut reading = Reading::new(alloc);
     let mut rest = bytes;
     let mut line = 1;
     while !rest.is_empty() {
         let (front, more) = next_line(rest);
-        if let Err(error) = add_line(alloc, &mut reading, line, front) {
+        if let Err(error) = add_line(alloc, &mut reading, &mut pool, line, front) {
             return Err(error);
         }
         rest = more;

@@ -9,6 +9,7 @@ ghost use Rattle.xod_lang.specs.Reads.{GoesOn, ReadsScript};
 ghost use Rattle.xod_lang.specs.Scripts.{has_name, has_room_for, is_between_parts, line_of, nothing_read, script_read, sessions_of, with_item, with_line, with_order, with_session, with_statement};
 
 use crate::line::{Line, read_line};
+use crate::pool::Pool;
 use crate::script::{
     Form, Item, OrderItem, OrderList, Script, ScriptError, SessionList, SessionScript, Statement,
     StatementList,
@@ -141,12 +142,19 @@ impl Reading {
         }
     }
 
-    /// Takes one line more, from its bytes.
-    pub fn add_bytes(&mut self, alloc: Global, line: u32, bytes: &[u8]) -> Result<(), Unread>
+    /// Takes one line more, from its bytes. Its names are shared with those that the pool has.
+    pub fn add_bytes(
+        &mut self,
+        alloc: Global,
+        pool: &mut Pool,
+        line: u32,
+        bytes: &[u8],
+    ) -> Result<(), Unread>
         ensures { GoesOn result self.new
             (option_and_then (with_line self.old line) (line_of bytes.now)) }
     {
-        let said = read_line(alloc, bytes)?;
+        let mut said = read_line(alloc, bytes)?;
+        pool.share_line(alloc, &mut said);
         self.add_line(alloc, line, said)
     }
 
