@@ -1,0 +1,13 @@
+pub mod General
+pub mod Names
+pub mod Entities
+pub mod Properties
+pub mod Links
+pub mod Sound
+pub mod Complete
+pub mod Told
+pub mod Looked
+pub mod KeysWritten
+pub mod Counting
+pub mod Listing
+pub mod Audited
