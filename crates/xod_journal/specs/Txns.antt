@@ -11,17 +11,18 @@ use Rattle.xod_journal.specs.declared.journal.Pinned.{Pinned}
 use Rattle.xod_journal.specs.Changes.{all_applied, all_fit}
 use Rattle.xod_journal.specs.Standing.{Newest}
 
--- An open transaction: its mode, the commit that it sees, its own changes since, and the rows of that commit with them
--- applied.
+-- An open transaction: its mode, the commit that it sees and the rows of it, its own changes since, and those rows with
+-- them applied.
 pub record OpenTxn : Type 0 where
   pub mode : Mode
   pub base : ℕ
+  pub begun : RowsValue
   pub own : List RowChange
   pub rows : RowsValue
 
 -- a transaction at the newest commit, without changes
 abbrev pub txn_at : Mode → Newest → OpenTxn
-txn_at mode now = record { mode = mode; base = now.commit; own = []; rows = now.rows }
+txn_at mode now = record { mode = mode; base = now.commit; begun = now.rows; own = []; rows = now.rows }
 
 -- the transaction after an act: it has its changes, and none where it was refused
 abbrev pub txn_acted : OpenTxn → Result (List RowChange) StmtError → OpenTxn
@@ -31,7 +32,7 @@ txn_acted txn (Err error) = txn
 -- the transaction after a flush: it goes on at its own commit, without changes
 abbrev pub txn_flushed : OpenTxn → FlushAnswer → OpenTxn
 txn_flushed txn flush.Nothing = txn
-txn_flushed txn (flush.Committed version fault) = record txn { base = version; own = [] }
+txn_flushed txn (flush.Committed version fault) = record txn { base = version; begun = txn.rows; own = [] }
 txn_flushed txn (flush.Conflict base now) = txn
 
 -- whether the answer of a query is cached; nothing is, yet
@@ -42,7 +43,8 @@ is_hit txn query = false
 abbrev pub pinned_of : OpenTxn → Pinned
 pinned_of txn = record { mode = txn.mode; base = txn.base }
 
--- a transaction's own changes fit the rows that it began with, and its rows are those with the changes
+-- A transaction began with these rows, its own changes fit them, and its rows are those with the changes.
 pub record FitsRows (rows : RowsValue) (txn : OpenTxn) : Type 0 where
+  pub began : txn.begun ≡ rows
   pub fit : all_fit rows txn.own ≡ true
   pub now : txn.rows ≡ all_applied rows txn.own

@@ -66,8 +66,12 @@ module _ (start : Newest) (journal : List JournalEntry) (commit : ℕ) (txns : F
   pub plain-busy : (mode : Mode) → busy_of start journal mode ≡ holder_among mode (entries txns)
   plain-busy mode = let w = was in ap (option_and_then (λ books. holder books mode)) w.books ∙ (λ i. holder_among mode (entries (w.kept i).1.0))
 
-  pub plain-txn : (mode : Mode) (own : List RowChange) (shared : RowsValue) → own ≡ [] → shared ≡ rows → record { mode = mode; base = commit; own = own; rows = shared } ≡ txn_at mode (newest_after start journal)
-  plain-txn mode own shared none same = let newest = sym plain-newest in λ i. record { mode = mode; base = (newest i).commit; own = none i; rows = (same ∙ ap (λ (n : Newest). n.rows) newest) i }
+  pub plain-txn : (mode : Mode) (begun : RowsValue) (own : List RowChange) (shared : RowsValue) → begun ≡ shared → own ≡ [] → shared ≡ rows
+      → record { mode = mode; base = commit; begun = begun; own = own; rows = shared } ≡ txn_at mode (newest_after start journal)
+  plain-txn mode begun own shared there none same =
+      let newest = sym plain-newest in
+      let rows_are = same ∙ ap (λ (n : Newest). n.rows) newest in
+      λ i. record { mode = mode; base = (newest i).commit; begun = (there ∙ rows_are) i; own = none i; rows = rows_are i }
 
   -- ---- a step that is no stop
 

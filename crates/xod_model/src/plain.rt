@@ -109,11 +109,13 @@ impl Space for PlainSpace {
         self.txns.set(actor, Pinned { mode, base })?;
         enter(&mut self.journal, actor, Step::Begin { mode });
         let own = Vec::new(alloc);
+        let begun = Snapshot::of(rows.as_rows());
         Ok((
             base,
             PlainTxn {
                 mode,
                 base,
+                begun,
                 own,
                 rows,
             },
@@ -166,6 +168,7 @@ impl Space for PlainSpace {
         let changes = ChangeList::from_vec(own);
         let version = Some(next);
         txn.base = next;
+        txn.begun = Snapshot::of(rows.as_rows());
         self.rows = rows;
         self.commit = next;
         enter(&mut self.journal, actor, Step::Flush { changes, version });
@@ -182,6 +185,7 @@ impl Space for PlainSpace {
         let rows = self.rows.share()?;
         self.txns.set(actor, Pinned { mode, base })?;
         txn.base = base;
+        txn.begun = Snapshot::of(rows.as_rows());
         txn.own = Vec::new(alloc);
         txn.rows = rows;
         enter(&mut self.journal, actor, Step::Revert);

@@ -9,17 +9,20 @@ ghost use Rattle.xod_model.specs.Refusals.{Tells};
 
 use crate::expansion::answer_to;
 use crate::room::make_room;
-use crate::rows::plain_eval;
+use crate::rows::{Rows, plain_eval};
 use crate::shared::SharedRows;
 use std::alloc::Global;
+use std::snapshot::Snapshot;
 use xod_base::{Act, ActAnswer, Answer, EntityId, Mode, Query, Shown, StmtError};
 use xod_journal::{Local, RowChange};
 
-/// An open transaction: its mode, the commit that it sees, its own changes since, and the rows with them made.
+/// An open transaction: its mode, the commit that it sees, its own changes since, and the rows with them made. The rows
+/// that it began with are known to contracts alone.
 #[derive(Drop)]
 pub struct PlainTxn {
     pub(crate) mode: Mode,
     pub(crate) base: u64,
+    pub(crate) begun: Snapshot<Rows>,
     pub(crate) own: Vec<RowChange>,
     pub(crate) rows: SharedRows,
 }

@@ -88,6 +88,7 @@ module _ (fit : ExpansionsFit) (stay : NamesStay) where
                   rows = f.rows;
                   is = f.is;
                   fits = record {
+                    began = f.fits.began;
                     fit = all_fit-append f.rows txn.own changes f.fits.fit (subst (λ r. all_fit r changes ≡ true) f.fits.now (outcome-fits txn.mode txn.rows a changes rows_named named is));
                     now = ap (λ r. all_applied r changes) f.fits.now ∙ sym (all_applied-append f.rows txn.own changes);
                   };
@@ -295,7 +296,7 @@ module _ (same : SameIsEqual) (start : Newest) (journal : List JournalEntry) (no
       subst (λ a. Holds (moved now actor (step.Flush txn.own (version_of a)) (committed now.books actor (pinned_of txn) (version_of a))) actor false (Some (txn_flushed txn a))) is
       (flush_cases (λ a. Holds (moved now actor (step.Flush txn.own (version_of a)) (committed now.books actor (pinned_of txn) (version_of a))) actor false (Some (txn_flushed txn a))) now.books.commit txn.base txn.own
       (elsewhere now actor false (Some txn) held _ refl refl refl)
-      (λ here. put _ (record txn { base = now.books.commit + 1; own = [] }) (all_applied now.rows txn.own) held.stopped (get-inserted now.books.txns actor _) (get-inserted now.bases actor _) (record { fit = refl; now = at_newest txn held here }))
+      (λ here. put _ (record txn { base = now.books.commit + 1; begun = txn.rows; own = [] }) (all_applied now.rows txn.own) held.stopped (get-inserted now.books.txns actor _) (get-inserted now.bases actor _) (record { began = at_newest txn held here; fit = refl; now = at_newest txn held here }))
       (elsewhere now actor false (Some txn) held _ refl refl refl))
 
   flush-turned : (txn : OpenTxn) (changes : List RowChange) (version : Option ℕ) (done : Turned) (books : Books) → Holds now actor false (Some txn)
@@ -325,7 +326,7 @@ module _ (same : SameIsEqual) (start : Newest) (journal : List JournalEntry) (no
         | true ↦ λ b. absurd (none-some books b)
         | false ↦ λ b. subst (λ k. Holds (moved now actor (step.Begin given) k) actor false done.txn) (same_Some _ _ b)
             (subst (Holds (moved now actor (step.Begin given) (pinned now.books actor (record { mode = given; base = now.books.commit }))) actor false) done_is
-            (put _ (txn_at mode (newest_in now)) now.rows held.stopped (get-inserted now.books.txns actor _ ∙ ap (λ m. Some (record { mode = m; base = now.books.commit })) (sym (same_mode-is mode given l.0))) (get-inserted now.bases actor _) (record { fit = refl; now = refl })))
+            (put _ (txn_at mode (newest_in now)) now.rows held.stopped (get-inserted now.books.txns actor _ ∙ ap (λ m. Some (record { mode = m; base = now.books.commit })) (sym (same_mode-is mode given l.0))) (get-inserted now.bases actor _) (record { began = refl; fit = refl; now = refl })))
       ] b
 
   pub turned-holds : (asked : Option SharedStep) (txn : Option OpenTxn) (st : Step) (done : Turned) (books : Books) → Holds now actor false txn
@@ -336,7 +337,7 @@ module _ (same : SameIsEqual) (start : Newest) (journal : List JournalEntry) (no
   turned-holds (Some shared.Revert) (Some txn) step.Revert done books held e b =
       subst (λ k. Holds (moved now actor step.Revert k) actor false done.txn) (same_Some _ _ b)
       (subst (Holds (moved now actor step.Revert (pinned now.books actor (record { mode = txn.mode; base = now.books.commit }))) actor false) (ap (λ (d : Turned). d.txn) (same_Some _ _ e))
-      (put _ (txn_at txn.mode (newest_in now)) now.rows held.stopped (get-inserted now.books.txns actor _) (get-inserted now.bases actor _) (record { fit = refl; now = refl })))
+      (put _ (txn_at txn.mode (newest_in now)) now.rows held.stopped (get-inserted now.books.txns actor _) (get-inserted now.bases actor _) (record { began = refl; fit = refl; now = refl })))
   turned-holds (Some shared.End) (Some txn) step.End done books held e b =
       subst (λ k. Holds (moved now actor step.End k) actor false done.txn) (same_Some _ _ b)
       (subst (Holds (moved now actor step.End (unpinned now.books actor)) actor false) (ap (λ (d : Turned). d.txn) (same_Some _ _ e))

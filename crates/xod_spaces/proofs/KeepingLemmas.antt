@@ -16,12 +16,12 @@ use Rattle.xod_journal.specs.declared.journal.Origin.TheVariants as origin
 use Rattle.xod_journal.specs.declared.journal.Pinned.{Pinned}
 use Rattle.xod_journal.specs.declared.journal.Step.{Step}
 use Rattle.xod_journal.specs.declared.journal.Step.TheVariants as step
-use Rattle.xod_journal.specs.Books.{Books, booked, booked_in, committed, flush_answer, holder, holder_among, pinned, same_version, version_of}
-use Rattle.xod_journal.specs.Seats.{Seat, books_after, busy_of, entered, is_over, seat_in, seat_of}
+use Rattle.xod_journal.specs.Books.{Books, booked, booked_in, committed, flush_answer, holder_among, pinned, same_version, version_of}
+use Rattle.xod_journal.specs.Seats.{Seat, books_after, entered, is_over, seat_in, seat_of}
 use Rattle.xod_journal.specs.Spaces.{CanStop, IsCounted, IsMet, device_stops, is_device_stop}
 use Rattle.xod_journal.specs.Standing.{Newest, newest_after, newest_step}
 use Rattle.xod_journal.specs.Txns.{OpenTxn, pinned_of}
-use Rattle.xod_journal.proofs.CallerLemmas.{all_booked-append, device_stops-entered, newest_after-append, same_version-refl, seat-going, seat-open}
+use Rattle.xod_journal.proofs.CallerLemmas.{all_booked-append, device_stops-entered, newest_after-append, same_version-refl, seat-open}
 use Rattle.xod_model.specs.Plain.{still_going}
 use Rattle.xod_model.proofs.GoingLemmas.{going-stopped, still_going-most}
 use Rattle.xod_spaces.specs.declared.outside.Outside.{Outside}

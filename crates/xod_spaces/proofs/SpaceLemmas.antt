@@ -1,24 +1,19 @@
 -- What the calls of a store that fails as planned come to.
-use Rattle.std.proofs.Common.{◌≡◌, ◌≤◌, ℕ, Bool, true, false, List, [], Option, Some, None, refl, sym, ap, ◌∙◌, arith}
-use Rattle.std.specs.Prelude.{IsTrue}
-use Rattle.std.proofs.lemmas.Bool.{false≢true}
+use Rattle.std.proofs.Common.{◌≡◌, ◌≤◌, ℕ, List, Some, None, ap, arith}
 use Rattle.std.proofs.lemmas.Option.{none-some, same_Some}
-use Rattle.xod_base.specs.declared.answer.FlushAnswer.{FlushAnswer}
 use Rattle.xod_base.specs.declared.answer.FlushAnswer.TheVariants as answer
 use Rattle.xod_base.specs.declared.causes.Cause.{Cause}
 use Rattle.xod_base.specs.declared.causes.Cause.TheVariants as cause
 use Rattle.xod_journal.specs.declared.change.RowChange.{RowChange}
 use Rattle.xod_journal.specs.declared.journal.JournalEntry.{JournalEntry}
 use Rattle.xod_journal.specs.Books.{flush_answer, version_of}
-use Rattle.xod_journal.specs.Locals.{held_of}
 use Rattle.xod_journal.specs.Seats.{seat_of}
-use Rattle.xod_journal.specs.Spaces.{HasReason, IsFault, IsFlushed, IsTxn, KeepsSpace, Refuses, SpaceView, without_fault}
-use Rattle.xod_journal.specs.Txns.{OpenTxn}
+use Rattle.xod_journal.specs.Spaces.{IsFault}
 use Rattle.xod_journal.proofs.CallerLemmas.{flush_cases}
 use Rattle.xod_spaces.specs.declared.outside.Outside.{Outside}
 use Rattle.xod_spaces.specs.declared.space.FaultySpace.{FaultySpace}
 use Rattle.xod_spaces.specs.Frames.{IsSameStore}
-use Rattle.xod_spaces.specs.Outsides.{IsFaultIn, StaysOut}
+use Rattle.xod_spaces.specs.Outsides.{IsFaultIn}
 use Rattle.xod_spaces.specs.Views.{faulty_view, start_at}
 
 -- ---- what an admitted call leaves

@@ -1,12 +1,12 @@
 -- A store that fails as planned is a space.
-use Rattle.std.specs.Prelude.{◌≡◌, ℕ, ◌+◌, true, List, Option, Some, None, option_map, is_some, refl}
+use Rattle.std.specs.Prelude.{◌≡◌, ℕ, true, List, Option, Some, None, option_map, is_some, refl}
 use Rattle.std.proofs.Common.{ap, arith}
 use Rattle.std.specs.Ordering.{nat_cmp}
 use Rattle.std.specs.FinMap.{FinMap}
 use Rattle.std.proofs.lemmas.Bool.{false≢true}
 use Rattle.xod_journal.specs.declared.journal.JournalEntry.{JournalEntry}
 use Rattle.xod_journal.specs.declared.journal.Pinned.{Pinned}
-use Rattle.xod_journal.specs.Spaces.{IsSpace, device_stops}
+use Rattle.xod_journal.specs.Spaces.{IsSpace}
 use Rattle.xod_spaces.specs.declared.outside.Outside.{Outside}
 use Rattle.xod_spaces.specs.Keeping.{Keeps, kept_in}
 use Rattle.xod_spaces.specs.Views.{faulty_view}

@@ -36,7 +36,7 @@ pub returns-clause-begins : goal.returns-clause-begins
 returns-clause-begins c =
     let made = c.in_ok-make_room.ensures in
     let put = c.enter.ensures in
-    let txn = plain-txn _ _ _ _ _ _ _ _ c.args.self.now.kept c.args.mode _ _ c.new-own.ensures.items c.in_ok-rows.ensures in
+    let txn = plain-txn _ _ _ _ _ _ _ _ c.args.self.now.kept c.args.mode _ _ _ (c.of-begun.ensures ∙ c.as_rows.ensures) c.new-own.ensures.items c.in_ok-rows.ensures in
     let newest = plain-newest _ _ _ _ _ _ _ _ c.args.self.now.kept in
     record {
       free = free (goal.at.returns-clause-begins c).After-make_room;

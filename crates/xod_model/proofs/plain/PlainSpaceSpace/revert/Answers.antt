@@ -19,7 +19,7 @@ pub returns-clause-reverts : goal.returns-clause-reverts
 returns-clause-reverts c =
     let made = c.in_ok-make_room.ensures in
     let put = c.enter.ensures in
-    let txn = plain-txn _ _ _ _ _ _ _ _ c.args.self.now.kept c.args.txn.now.mode _ _ c.new.ensures.items c.in_ok-rows.ensures in
+    let txn = plain-txn _ _ _ _ _ _ _ _ c.args.self.now.kept c.args.txn.now.mode _ _ _ (c.of.ensures ∙ c.as_rows.ensures) c.new.ensures.items c.in_ok-rows.ensures in
     let newest = plain-newest _ _ _ _ _ _ _ _ c.args.self.now.kept in
     record {
       unbroken = refl;

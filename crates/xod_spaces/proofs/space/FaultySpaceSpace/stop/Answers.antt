@@ -1,4 +1,4 @@
-use Rattle.std.proofs.Common.{refl, subst, sym, ◌+◌}
+use Rattle.std.proofs.Common.{refl, subst, ◌+◌}
 use Rattle.xod_journal.specs.Spaces.{IsCounted}
 use Rattle.xod_spaces.proofs.KeepingLemmas.{keeps-stopped, stop-room}
 use Rattle.xod_spaces.proofs.space.FaultySpaceSpace.stop.Goals as goal
