@@ -9,6 +9,7 @@ use Rattle.std.specs.Option.{option_map}
 use Rattle.std.specs.Int.{w64, w32, from_be_bytes}
 use Rattle.std.proofs.Math.Path.{fun_ext}
 use Rattle.std.proofs.lemmas.Bool.{cases_lt, cases_eq, cond-false, eq-eqb, le-ltb, ltb-false}
+use Rattle.xod_base.specs.Rows.{RowsValue}
 use Rattle.xod_base.specs.Views.{Trees}
 use Rattle.xod_base.specs.declared.causes.Place.{Place}
 use Rattle.xod_volume.specs.Files.{Files, Content, bytes_in, bytes_of}
@@ -23,12 +24,14 @@ use Rattle.xod_trie.specs.declared.branch.Branch.{Branch}
 use Rattle.xod_trie.specs.Branches.{branch_of}
 use Rattle.xod_trie.specs.Tries.{TrieMap, trie_map}
 use Rattle.xod_log.specs.Ends.{numbers_at, end_at, back_at, body_of, ends_of}
-use Rattle.xod_recover.specs.Check.{Newest, Rooted, no_newest, bodies_upto, records_upto, has_body, rooted_in, root_address, check_trees, check_root, check_back, check_body, check_file, check_used, check}
+use Rattle.xod_tables.specs.Reading.{rows_of}
+use Rattle.xod_recover.specs.Check.{Newest, Rooted, no_newest, bodies_upto, records_upto, has_body, rooted_in, root_address, root_of, trees_under, check_tables, check_trees, check_root, check_back, check_body, check_file, check_used, check}
 use Rattle.xod_recover.specs.Opened.{open_count, is_used, greatest_used}
-use Rattle.xod_recover.specs.Stores.{Stored, root_of, stored_by, stored_of}
+use Rattle.xod_recover.specs.Stores.{Stored, stored_of}
 use Rattle.xod_recover.specs.Walks.{file_at, or_else, first_bad, bad_branch, bad_within, bad_under, bad_trees}
 use Rattle.xod_recover.specs.Whole.{IsWhole}
 use Rattle.xod_recover.proofs.Greatest.{greatest_alike, greatest_used_is}
+use Rattle.xod_recover.proofs.Tabling.{trees-ok}
 use Rattle.xod_recover.proofs.Wholes.{trees-whole}
 
 -- ---- tries go by the records below them
@@ -93,6 +96,19 @@ module _ (a b : Files) where
   pub agree-by : (x z y w : Result Newest Place) → x ≡ z → y ≡ w → Agree z w → Agree x y
   agree-by x z y w first second both = (first ∙ both.0 ∙ sym second, ap (stored_of a) first ∙ both.1 ∙ sym (ap (stored_of b) second))
 
+  -- the same trees are the tables of the same rows
+  tables-agree : (newest : Newest) (rows : Option RowsValue) → trees_under a newest ≡ trees_under b newest → Agree (check_tables newest rows) (check_tables newest rows)
+  tables-agree newest None same = (refl, refl)
+  tables-agree newest (Some rows) same =
+      let holding : Trees → Option Stored = λ t. Some (record { commit = newest.commit; trees = t }) in
+      (refl, ap holding same)
+
+  pub trees-agree : (newest : Newest) → trees_under a newest ≡ trees_under b newest → Agree (check_trees a newest None) (check_trees b newest None)
+  trees-agree newest same =
+      let rows = rows_of (trees_under b newest) in
+      agree-by (check_tables newest (rows_of (trees_under a newest))) (check_tables newest rows) (check_tables newest rows) (check_tables newest rows)
+      (ap (λ (t : Trees). check_tables newest (rows_of t)) same) refl (tables-agree newest rows same)
+
   module _ (file end back : ℕ) (own : take end (bytes_of a (body_of file)) ≡ take end (bytes_of b (body_of file))) (there : has_body a file ≡ has_body b file)
       (beside : (other : ℕ) → other ≤ file + end / 2 ^ 64 → other ≢ file → get a (body_of other) ≡ get b (body_of other)) where
     abbrev root : Address
@@ -122,23 +138,21 @@ module _ (a b : Files) where
     abbrev named : ℕ → Rooted → Newest
     named mark rooted = record { file = file; marks = suc mark; end = end; back = back; commit = rooted.0; trees = rooted.1 }
 
-    reached : (mark : ℕ) (rooted : Rooted) (bad : Option Place) → bad_trees (records_upto b file end) (has_body b) root rooted.1 ≡ bad → Agree (check_trees (named mark rooted) bad) (check_trees (named mark rooted) bad)
+    reached : (mark : ℕ) (rooted : Rooted) (bad : Option Place) → bad_trees (records_upto b file end) (has_body b) root rooted.1 ≡ bad → Agree (check_trees a (named mark rooted) bad) (check_trees b (named mark rooted) bad)
     reached mark rooted (Some place) is = (refl, refl)
     reached mark rooted None is =
         let whole = trees-whole (records_upto b file end) (has_body b) root rooted.1 is in
-        let trees : (stored_by a (named mark rooted)).trees ≡ (stored_by b (named mark rooted)).trees = fun_ext (λ tree.
+        trees-agree (named mark rooted) (fun_ext (λ tree.
         map-alike (records_upto a file end) (records_upto b file end) (has_body a) (has_body b) (number_of root) record-same has-same (root_of rooted.1 tree)
-        (lower-roots (records_upto b file end) (has_body b) root rooted.1 whole tree)) in
-        let holding : Trees → Option Stored = λ t. Some (record { commit = rooted.0; trees = t }) in
-        (refl, ap holding trees)
+        (lower-roots (records_upto b file end) (has_body b) root rooted.1 whole tree)))
 
     root-agree : (mark : ℕ) (o : Option Rooted) → Agree (check_root a file mark end back o) (check_root b file mark end back o)
     root-agree mark None = (refl, refl)
     root-agree mark (Some rooted) =
         let here = bad_trees (records_upto a file end) (has_body a) root rooted.1 in
         let bad = bad_trees (records_upto b file end) (has_body b) root rooted.1 in
-        agree-by (check_trees (named mark rooted) here) (check_trees (named mark rooted) bad) (check_trees (named mark rooted) bad) (check_trees (named mark rooted) bad)
-        (ap (check_trees (named mark rooted)) (trees-alike (records_upto a file end) (records_upto b file end) (has_body a) (has_body b) (number_of root) record-same has-same root rooted.1 (omega arith)))
+        agree-by (check_trees a (named mark rooted) here) (check_trees a (named mark rooted) bad) (check_trees b (named mark rooted) bad) (check_trees b (named mark rooted) bad)
+        (ap (check_trees a (named mark rooted)) (trees-alike (records_upto a file end) (records_upto b file end) (has_body a) (has_body b) (number_of root) record-same has-same root rooted.1 (omega arith)))
         refl (reached mark rooted bad refl)
 
     pub back-agree : (mark : ℕ) → Agree (check_back a file mark end back) (check_back b file mark end back)
@@ -232,15 +246,11 @@ pub not-err : (t : Bool) (place : Place) (next : Result Newest Place) (found : N
 not-err true place next found e = absurd cc
 not-err false place next found e = (refl, e)
 
-pub trees-ok : (newest found : Newest) (bad : Option Place) → check_trees newest bad ≡ Ok found → (found ≡ newest) × (bad ≡ None)
-trees-ok newest found None e = let same : newest ≡ found = cc in (sym same, refl)
-trees-ok newest found (Some place) e = absurd cc
-
 root-says : (files : Files) (file mark end back : ℕ) (newest : Newest) → end ≤ length (bytes_of files (body_of file)) → (o : Option Rooted) → check_root files file mark end back o ≡ Ok newest → Says files file mark end back newest
 root-says files file mark end back newest long None e = absurd cc
 root-says files file mark end back newest long (Some rooted) e =
     let named : Newest = record { file = file; marks = suc mark; end = end; back = back; commit = rooted.0; trees = rooted.1 } in
-    let is : newest ≡ named = (trees-ok named newest (bad_trees (records_upto files file end) (has_body files) (root_address file end back) rooted.1) e).0 in
+    let is : newest ≡ named = sym (trees-ok files named newest (bad_trees (records_upto files file end) (has_body files) (root_address file end back) rooted.1) e).1 in
     record {
       file_is = ap (λ (n : Newest). n.file) is;
       marks_are = ap (λ (n : Newest). n.marks) is;

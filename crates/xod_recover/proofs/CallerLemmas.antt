@@ -11,8 +11,11 @@ pub use Rattle.xod_recover.proofs.Cutting.{record_in-take, records_of-cut}
 pub use Rattle.xod_recover.proofs.Taking.{FewTrees, Begins, record_at-begins}
 -- the newest root, and the log file that it stands in
 pub use Rattle.xod_recover.proofs.Newests.{greatest-used, used-parts, check-newest, newest-check, body-numbers}
--- trees of good files
-pub use Rattle.xod_recover.proofs.Storing.{good-maps, stored-maps}
+-- trees of good files, and their rows
+pub use Rattle.xod_recover.proofs.Storing.{good-maps, stored-maps, newest-rows, good-rows}
+pub use Rattle.xod_recover.proofs.Tabling.{trees-ok, ok-tables}
+-- the roots of trees, as a list and as a map
+pub use Rattle.xod_recover.proofs.Judging.{root-get}
 -- reads of a volume in a row
 pub use Rattle.xod_recover.proofs.OnlyReading.{reads-none, reads-then, reads-over, reads-on, rose-later}
 -- what an opening keeps, and what stands above the root found
@@ -22,7 +25,7 @@ pub use Rattle.xod_recover.proofs.Recovering.{is-found, same-newest}
 -- near images
 pub use Rattle.xod_recover.proofs.CutKeeps.{but_any, near_found, settled_found}
 -- files that are decided alike, and store the same
-pub use Rattle.xod_recover.proofs.Alike.{agree-by, marked, long-agree, size-agree, all-agree, map-alike, SaysSame}
+pub use Rattle.xod_recover.proofs.Alike.{agree-by, marked, long-agree, size-agree, all-agree, map-alike, trees-agree, SaysSame}
 pub use Rattle.xod_recover.proofs.Counts.{count_is}
 pub use Rattle.xod_recover.proofs.Greatest.{same_used, used_by_count, used_has, greatest_used_is, greatest-above, greatest_is, greatest_alike}
 pub use Rattle.xod_recover.proofs.Counts.{is_long, opens_below, opens_gate, stops}

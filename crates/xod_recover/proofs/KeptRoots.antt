@@ -7,7 +7,6 @@ use Rattle.std.specs.List.{AllByRecursion}
 use Rattle.std.specs.Option.{option_map}
 use Rattle.std.proofs.Math.Path.{fun_ext}
 use Rattle.std.proofs.lemmas.Bool.{cases_eq, cond-false, eq-eqb, ne_eqb, le-ltb, ltb-true, and_parts}
-use Rattle.xod_base.specs.Views.{Trees}
 use Rattle.xod_base.specs.declared.causes.Place.{Place}
 use Rattle.xod_volume.specs.Files.{Files, Content, bytes_in, bytes_of}
 use Rattle.xod_block.specs.declared.address.Address.{Address}
@@ -21,11 +20,11 @@ use Rattle.xod_trie.specs.declared.branch.Branch.{Branch}
 use Rattle.xod_trie.specs.Branches.{branch_of}
 use Rattle.xod_trie.specs.Tries.{TrieMap, trie_map}
 use Rattle.xod_log.specs.Ends.{body_of}
-use Rattle.xod_recover.specs.Check.{Newest, Rooted, bodies_upto, records_upto, has_body, rooted_in, root_address, check_trees, check_root, check_back, check}
-use Rattle.xod_recover.specs.Stores.{Stored, root_of, stored_by}
+use Rattle.xod_recover.specs.Check.{Newest, Rooted, bodies_upto, records_upto, has_body, rooted_in, root_address, root_of, check_trees, check_root, check_back, check}
 use Rattle.xod_recover.specs.Walks.{file_at, or_else, first_bad, bad_branch, bad_within, bad_under, bad_trees}
 use Rattle.xod_recover.specs.Whole.{IsWhole}
-use Rattle.xod_recover.proofs.Alike.{Agree, agree-by, LastMark, check-marked, not-err, trees-ok}
+use Rattle.xod_recover.proofs.Alike.{Agree, agree-by, LastMark, check-marked, not-err, trees-agree}
+use Rattle.xod_recover.proofs.Tabling.{trees-ok}
 use Rattle.xod_recover.proofs.Wholes.{trees-whole}
 
 -- ---- more records, and nothing that was fine is bad
@@ -83,7 +82,7 @@ module _ (r s : RecordsAt) (has other : ℕ → Bool) (bound : ℕ) (more : (n :
   map-kept (Some at) whole = ap to_map (map_at-more r s (number_of at) (λ below item le is. more below item (omega (arith, le, whole.0)) is) whole.1)
 
 -- the roots of whole trees
-whole-roots : (records : RecordsAt) (has : ℕ → Bool) (root : Address) (trees : List Link) → AllByRecursion (λ tree. IsWhole records has root tree.1) trees → (tree : ℕ)
+pub whole-roots : (records : RecordsAt) (has : ℕ → Bool) (root : Address) (trees : List Link) → AllByRecursion (λ tree. IsWhole records has root tree.1) trees → (tree : ℕ)
     → IfSome (root_of trees tree) (λ at. (number_of at < number_of root) × IsSome (map_at records (number_of at)))
 whole-roots records has root [] whole tree = tt
 whole-roots records has root (first ∷ trees) whole tree =
@@ -136,24 +135,22 @@ module _ (a b : Files) (file end back : ℕ) (own : take end (bytes_of a (body_o
   abbrev named : ℕ → Rooted → Newest
   named mark rooted = record { file = file; marks = suc mark; end = end; back = back; commit = rooted.0; trees = rooted.1 }
 
-  trees-same : (mark : ℕ) (rooted : Rooted) → bad_trees (records_upto b file end) (has_body b) root rooted.1 ≡ None → Agree a b (check_trees (named mark rooted) None) (check_trees (named mark rooted) None)
+  trees-same : (mark : ℕ) (rooted : Rooted) → bad_trees (records_upto b file end) (has_body b) root rooted.1 ≡ None → Agree a b (check_trees a (named mark rooted) None) (check_trees b (named mark rooted) None)
   trees-same mark rooted none =
       let whole = trees-whole (records_upto b file end) (has_body b) root rooted.1 none in
-      let trees : (stored_by a (named mark rooted)).trees ≡ (stored_by b (named mark rooted)).trees = fun_ext (λ tree.
+      trees-agree a b (named mark rooted) (fun_ext (λ tree.
       map-kept (records_upto b file end) (records_upto a file end) (has_body b) (has_body a) (number_of root) record-more has-more (root_of rooted.1 tree)
-      (whole-roots (records_upto b file end) (has_body b) root rooted.1 whole tree)) in
-      let holding : Trees → Option Stored = λ t. Some (record { commit = rooted.0; trees = t }) in
-      (refl, ap holding trees)
+      (whole-roots (records_upto b file end) (has_body b) root rooted.1 whole tree)))
 
   root-kept : (mark : ℕ) (newest : Newest) (o : Option Rooted) → check_root b file mark end back o ≡ Ok newest → Agree a b (check_root a file mark end back o) (check_root b file mark end back o)
   root-kept mark newest None is = absurd cc
   root-kept mark newest (Some rooted) is =
       let here = bad_trees (records_upto a file end) (has_body a) root rooted.1 in
       let bad = bad_trees (records_upto b file end) (has_body b) root rooted.1 in
-      let none = (trees-ok (named mark rooted) newest bad is).1 in
-      agree-by a b (check_trees (named mark rooted) here) (check_trees (named mark rooted) None) (check_trees (named mark rooted) bad) (check_trees (named mark rooted) None)
-      (ap (check_trees (named mark rooted)) (trees-kept (records_upto b file end) (records_upto a file end) (has_body b) (has_body a) (number_of root) record-more has-more root rooted.1 (omega arith) none))
-      (ap (check_trees (named mark rooted)) none)
+      let none = (trees-ok b (named mark rooted) newest bad is).0 in
+      agree-by a b (check_trees a (named mark rooted) here) (check_trees a (named mark rooted) None) (check_trees b (named mark rooted) bad) (check_trees b (named mark rooted) None)
+      (ap (check_trees a (named mark rooted)) (trees-kept (records_upto b file end) (records_upto a file end) (has_body b) (has_body a) (number_of root) record-more has-more root rooted.1 (omega arith) none))
+      (ap (check_trees b (named mark rooted)) none)
       (trees-same mark rooted none)
 
   pub back-kept : (mark : ℕ) (newest : Newest) → check_back b file mark end back ≡ Ok newest → Agree a b (check_back a file mark end back) (check_back b file mark end back)

@@ -21,7 +21,8 @@ use Rattle.xod_recover.specs.Check.{has_body, records_upto}
 use Rattle.xod_recover.specs.Cuts.{fitting, ended_by}
 use Rattle.xod_recover.specs.Frames.{StandInBodies, lists_body}
 use Rattle.xod_recover.specs.Listings.{is_body}
-use Rattle.xod_recover.specs.Walks.{file_at, bad_trees}
+use Rattle.xod_recover.specs.Steps.{kinds_reached}
+use Rattle.xod_recover.specs.Walks.{file_at}
 use Rattle.xod_recover.proofs.Cutting.{records_of-cut}
 use Rattle.xod_recover.proofs.Listing.{listed, listed_at}
 
@@ -98,11 +99,11 @@ module _ (files : Files) (numbers : List ℕ) (are : numbers ≡ keys files) whe
         ap (λ (b : Bodies). ended_by (records_of b) file end number) (same_function (lent_bodies lent) (λ other. bytes_of files (body_of other)) (λ other. ap (λ (f : Files). bytes_of f (body_of other)) lent_is ∙ lent-body bodies bodies_are other))
         ∙ sym (records_of-cut (λ other. bytes_of files (body_of other)) file end number)
 
-    -- the walk over the lease is that over the files
-    pub lent-bad : (root : Address) (trees : List Link) → bad_trees (ended_by (records_of (lent_bodies lent)) file end) (lists_body numbers) root trees ≡ bad_trees (records_upto files file end) (has_body files) root trees
-    lent-bad root trees =
-        ap (λ (r : RecordsAt). bad_trees r (lists_body numbers) root trees) (same_function (ended_by (records_of (lent_bodies lent)) file end) (records_upto files file end) lent-records)
-        ∙ ap (λ (h : ℕ → Bool). bad_trees (records_upto files file end) h root trees) (same_function (lists_body numbers) (has_body files) lists-has)
+    -- what is found in the lease is what is found in the files
+    pub lent-kinds : (root : Address) (trees : List Link) → kinds_reached (ended_by (records_of (lent_bodies lent)) file end) (lists_body numbers) root trees ≡ kinds_reached (records_upto files file end) (has_body files) root trees
+    lent-kinds root trees =
+        ap (λ (r : RecordsAt). kinds_reached r (lists_body numbers) root trees) (same_function (ended_by (records_of (lent_bodies lent)) file end) (records_upto files file end) lent-records)
+        ∙ ap (λ (h : ℕ → Bool). kinds_reached (records_upto files file end) h root trees) (same_function (lists_body numbers) (has_body files) lists-has)
 
     -- records stand in files that are there
     pub lent-stands : StandInBodies (ended_by (records_of (lent_bodies lent)) file end) (lists_body numbers)

@@ -11,6 +11,7 @@ pub mod Cutting
 pub mod Entering
 pub mod Erring
 pub mod Greatest
+pub mod Judging
 pub mod Keeps
 pub mod KeptRoots
 pub mod Lasting
@@ -24,6 +25,7 @@ pub mod Recovering
 pub mod Reopening
 pub mod Rooting
 pub mod Storing
+pub mod Tabling
 pub mod Taking
 pub mod Upward
 pub mod Using

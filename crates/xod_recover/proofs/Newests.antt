@@ -6,11 +6,13 @@ use Rattle.std.proofs.lemmas.Bool.{and_parts, ltb-true, ltb-false, le-ltb}
 use Rattle.std.proofs.lemmas.Option.{cond_some}
 use Rattle.xod_base.specs.declared.causes.Place.{Place}
 use Rattle.xod_volume.specs.Files.{Files, bytes_of}
+use Rattle.xod_tables.specs.Reading.{rows_of}
 use Rattle.xod_log.specs.Ends.{end_at, back_at, body_of, ends_of}
-use Rattle.xod_recover.specs.Check.{Newest, Rooted, no_newest, check, check_used, check_file, check_body, check_back, check_root, check_trees, has_body, records_upto, root_address, rooted_in}
+use Rattle.xod_recover.specs.Check.{Newest, Rooted, no_newest, check, check_used, check_file, check_body, check_back, check_root, check_trees, has_body, records_upto, root_address, rooted_in, trees_under}
 use Rattle.xod_recover.specs.Newest.{IsNewest}
 use Rattle.xod_recover.specs.Opened.{open_count, is_used, log_file_of, used_at, later_or, last_used, greatest_used}
 use Rattle.xod_recover.specs.Walks.{bad_trees}
+use Rattle.xod_recover.proofs.Tabling.{ok-tables, trees-ok}
 
 -- ---- the file that is used last is used
 
@@ -50,10 +52,6 @@ passes : (test : Bool) (place : Place) (next : Result Newest Place) (found : New
 passes true place next found e = absurd cc
 passes false place next found e = (refl, e)
 
-nothing_bad : (newest found : Newest) (bad : Option Place) → check_trees newest bad ≡ Ok found → (bad ≡ None) × (newest ≡ found)
-nothing_bad newest found None e = (refl, cc e)
-nothing_bad newest found (Some place) e = absurd cc
-
 a_root : (files : Files) (found : Newest) (file mark end back : ℕ) (rooted : Option Rooted) → check_root files file mark end back rooted ≡ Ok found → (root : Rooted) × (rooted ≡ Some root) × (check_root files file mark end back (Some root) ≡ Ok found)
 a_root files found file mark end back None e = absurd cc
 a_root files found file mark end back (Some root) e = (root, refl, e)
@@ -76,7 +74,7 @@ module _ (files : Files) where
       let near = passes (ltb end back) (record { file = ends_of file; at = 13 * mark }) (check_root files file mark end back (rooted_in (drop (end - back) (take end (B file))))) found long.1 in
       let root = a_root files found file mark end back (rooted_in (drop (end - back) (take end (B file)))) near.1 in
       let newest : Newest = record { file = file; marks = suc mark; end = end; back = back; commit = root.0.0; trees = root.0.1 } in
-      let whole = nothing_bad newest found (bad_trees (records_upto files file end) (has_body files) (root_address file end back) root.0.1) root.2 in
+      let whole = trees-ok files newest found (bad_trees (records_upto files file end) (has_body files) (root_address file end back) root.0.1) root.2 in
       let is : IsNewest files newest = record {
         used = used;
         some = omega arith;
@@ -87,6 +85,7 @@ module _ (files : Files) where
         within = ltb-false end back near.0;
         root = root.1;
         whole = whole.0;
+        tables = whole.2;
       } in
       subst (IsNewest files) whole.1 is
 
@@ -97,7 +96,7 @@ module _ (files : Files) where
       let near = passes (ltb end back) (record { file = ends_of file; at = 13 * mark }) (check_root files file mark end back (rooted_in (drop (end - back) (take end (B file))))) found long.1 in
       let root = a_root files found file mark end back (rooted_in (drop (end - back) (take end (B file)))) near.1 in
       let newest : Newest = record { file = file; marks = suc mark; end = end; back = back; commit = root.0.0; trees = root.0.1 } in
-      let same = (nothing_bad newest found (bad_trees (records_upto files file end) (has_body files) (root_address file end back) root.0.1) root.2).1 in
+      let same = (trees-ok files newest found (bad_trees (records_upto files file end) (has_body files) (root_address file end back) root.0.1) root.2).1 in
       (sym (ap (λ (n : Newest). n.file) same), sym (ap (λ (n : Newest). n.marks) same), sym (ap (λ (n : Newest). n.end) same), sym (ap (λ (n : Newest). n.back) same))
 
   used-newest : (found : Newest) (used : Option ℕ) → greatest_used files ≡ used → check_used files used ≡ Ok found → ((greatest_used files ≡ None) × (found ≡ no_newest)) ⊎ IsNewest files found
@@ -118,13 +117,15 @@ module _ (files : Files) where
       let step : ℕ → ℕ → ℕ → Result Newest Place = λ m end back. check_body files n.file m end back in
       let made : ℕ → Result Newest Place = λ marks. Ok (record { file = n.file; marks = marks; end = n.end; back = n.back; commit = n.commit; trees = n.trees }) in
       let root = rooted_in (drop (n.end - n.back) (take n.end (B n.file))) in
+      let named : Newest = record { file = n.file; marks = suc mark; end = n.end; back = n.back; commit = n.commit; trees = n.trees } in
       ap (λ (m : ℕ). step m (end_at (E n.file) m) (back_at (E n.file) m)) (ap pred is.count)
       ∙ ap (λ (end : ℕ). step mark end (back_at (E n.file) mark)) (sym is.end_is)
       ∙ ap (step mark n.end) (sym is.back_is)
       ∙ ap (λ (b : Bool). cond b (Err (record { file = body_of n.file; at = length (B n.file) })) (check_back files n.file mark n.end n.back)) long
       ∙ ap (λ (b : Bool). cond b (Err (record { file = ends_of n.file; at = 13 * mark })) (check_root files n.file mark n.end n.back root)) near
       ∙ ap (check_root files n.file mark n.end n.back) is.root
-      ∙ ap (check_trees (record { file = n.file; marks = suc mark; end = n.end; back = n.back; commit = n.commit; trees = n.trees })) is.whole
+      ∙ ap (check_trees files named) is.whole
+      ∙ ok-tables named (rows_of (trees_under files named)) is.tables
       ∙ ap made (suc-pred n.marks is.some)
 
   pub newest-check : (found : Newest) → ((greatest_used files ≡ None) × (found ≡ no_newest)) ⊎ IsNewest files found → check files ≡ Ok found

@@ -2,6 +2,8 @@
 use Rattle.std.specs.Prelude.{ℕ, suc, pred, ◌-◌, ◌*◌, ◌==◌, Bool, true, ◌&&◌, nat_lt, nat_le, if◌then◌else◌, List, [], ◌∷◌, length, take, drop, Option, Some, None, is_some, Result, Ok, Err}
 use Rattle.std.specs.FinMap.{get}
 use Rattle.xod_base.specs.declared.causes.Place.{Place}
+use Rattle.xod_base.specs.Rows.{RowsValue}
+use Rattle.xod_base.specs.Views.{Trees}
 use Rattle.xod_volume.specs.Files.{Files, bytes_of}
 use Rattle.xod_block.specs.declared.address.Address.{Address}
 use Rattle.xod_block.specs.Bodies.{Bodies, records_of}
@@ -9,6 +11,8 @@ use Rattle.xod_block.specs.Maps.{RecordsAt}
 use Rattle.xod_block.specs.Records.{Link, RecordValue, Leaf, Node, Root}
 use Rattle.xod_block.specs.Reading.{◌>>=◌, record_at}
 use Rattle.xod_log.specs.Ends.{end_at, back_at, body_of, ends_of}
+use Rattle.xod_tables.specs.Reading.{rows_of}
+use Rattle.xod_trie.specs.Tries.{trie_map}
 use Rattle.xod_recover.specs.Opened.{open_count, greatest_used}
 use Rattle.xod_recover.specs.Walks.{bad_trees}
 
@@ -59,12 +63,32 @@ rooted_by (Root commit trees) = if are_trees trees then Some (commit, trees) els
 unfoldable pub rooted_in : List ℕ → Option Rooted
 rooted_in bytes = record_at bytes >>= (λ found. if found.1 == length bytes then rooted_by found.0 else None)
 
+-- ---- the trees
+
+-- the root of a tree by its number
+abbrev pub root_of : List Link → ℕ → Option Address
+root_of [] tree = None
+root_of (root ∷ roots) tree = if root.0 == tree then Some root.1 else root_of roots tree
+
+-- the trees under a newest root, as finite maps
+abbrev pub trees_under : Files → Newest → Trees
+trees_under files newest tree = trie_map (records_upto files newest.file newest.end) (root_of newest.trees tree)
+
 -- ---- the steps, from the last to the first
 
--- all that the root reaches
-abbrev pub check_trees : Newest → Option Place → Result Newest Place
-check_trees newest (Some place) = Err place
-check_trees newest None = Ok newest
+-- the place of the newest root
+abbrev pub root_at : Newest → Place
+root_at newest = record { file = body_of newest.file; at = newest.end - newest.back }
+
+-- the rows that the trees are the tables of
+abbrev pub check_tables : Newest → Option RowsValue → Result Newest Place
+check_tables newest None = Err (root_at newest)
+check_tables newest (Some rows) = Ok newest
+
+-- all that the root reaches, and then the rows
+abbrev pub check_trees : Files → Newest → Option Place → Result Newest Place
+check_trees files newest (Some place) = Err place
+check_trees files newest None = check_tables newest (rows_of (trees_under files newest))
 
 abbrev pub root_address : ℕ → ℕ → ℕ → Address
 root_address file end back = record { file = file; at = end - back }
@@ -73,7 +97,7 @@ root_address file end back = record { file = file; at = end - back }
 abbrev pub check_root : Files → ℕ → ℕ → ℕ → ℕ → Option Rooted → Result Newest Place
 check_root files file mark end back None = Err (record { file = body_of file; at = end - back })
 check_root files file mark end back (Some rooted) =
-    check_trees
+    check_trees files
     (record { file = file; marks = suc mark; end = end; back = back; commit = rooted.0; trees = rooted.1 })
     (bad_trees (records_upto files file end) (has_body files) (root_address file end back) rooted.1)
 

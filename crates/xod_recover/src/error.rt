@@ -8,7 +8,8 @@ use xod_volume::VolumeError;
 /// Why a store was not opened.
 #[derive(Clone, Copy, Debug, PartialEq, Eq)]
 pub enum OpenError {
-    /// The files are not those of a good store: this is the first bad place.
+    /// The files are not those of a good store: this is the first bad place. It is that of the root
+    /// where all that the root reaches is there, and its trees are the tables of no rows.
     Damaged(Place),
     /// The device failed, and its count of faults rose in this call.
     Device,

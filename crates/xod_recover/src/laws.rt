@@ -16,7 +16,7 @@ ghost use Rattle.xod_recover.specs.Check.{Newest, check, no_newest, records_upto
 ghost use Rattle.xod_recover.specs.Cuts.{ended_by};
 ghost use Rattle.xod_recover.specs.Newest.{IsNewest};
 ghost use Rattle.xod_recover.specs.Opened.{greatest_used};
-ghost use Rattle.xod_recover.specs.Stores.{stored_by};
+ghost use Rattle.xod_recover.specs.Stores.{IsGood, rows_in, stored_by};
 ghost use Rattle.xod_recover.specs.Walks.{bad_trees, bad_under};
 ghost use Rattle.xod_recover.specs.Whole.{IsWhole};
 
@@ -55,4 +55,9 @@ pub fn good_trees_have_maps()
         (Some tree.1))) newest.trees }
     ensures each { (files : Files) (newest : Newest) (tree : ℕ) → check files ≡ Ok newest
         → IsSome ((stored_by files newest).trees tree) }
+{}
+
+/// Good files have rows: their trees are the tables of these.
+pub fn good_stores_have_rows()
+    ensures { (files : Files) → IsGood files → IsSome (rows_in files) }
 {}

@@ -15,6 +15,7 @@ mod error;
 mod laws;
 mod near;
 mod newest;
+mod owned;
 mod reach;
 mod reopen;
 mod root;
@@ -27,8 +28,8 @@ mod walk;
 pub use above::clear_above;
 pub use error::OpenError;
 pub use laws::{
-    good_trees_have_maps, later_records_change_no_walk, nothing_is_bad_exactly_in_whole_tries,
-    records_count_where_they_end, the_newest_root_is_found,
+    good_stores_have_rows, good_trees_have_maps, later_records_change_no_walk,
+    nothing_is_bad_exactly_in_whole_tries, records_count_where_they_end, the_newest_root_is_found,
 };
 pub use near::{near_images_store_what_was_found, settled_volumes_are_near};
 pub use newest::{Found, find_newest};

@@ -1,7 +1,7 @@
 //! The newest root of a store that is durable.
 //!
 //! Each step is a function: it answers the first bad place, or goes on to the next step.
-ghost use Rattle.std.specs.Prelude.{◌≡◌, ◌<◌, ◌≤◌, ◌+◌, ◌-◌, ◌*◌, ◌^◌, true, pred, Ok, Err, Some, IfOk, IfSome, OnOk, IsErrOf, IsSome, IsTrue};
+ghost use Rattle.std.specs.Prelude.{◌≡◌, ◌<◌, ◌≤◌, ◌+◌, ◌-◌, ◌*◌, ◌^◌, [], true, pred, Ok, Err, Some, IfOk, IfSome, OnOk, IsErrOf, IsSome, IsTrue};
 ghost use Rattle.std.specs.Option.{option_map};
 ghost use Rattle.std.specs.FinMap.{entries, get, keys};
 ghost use Rattle.xod_base.specs.Causes.{Rose};
@@ -9,8 +9,9 @@ ghost use Rattle.xod_base.specs.declared.causes.Place.{Place};
 ghost use Rattle.xod_volume.specs.Files.{bytes_of, size_of};
 ghost use Rattle.xod_volume.specs.declared.volume.VolumeError.{VolumeError};
 ghost use Rattle.xod_log.specs.Ends.{body_of, ends_of, numbers, numbers_at};
+ghost use Rattle.xod_audit.specs.Audits.{kinds_of};
 ghost use Rattle.xod_recover.specs.declared.error.OpenError.{OpenError};
-ghost use Rattle.xod_recover.specs.Check.{are_trees, check, no_newest, rooted_in};
+ghost use Rattle.xod_recover.specs.Check.{are_trees, check, no_newest, rooted_in, trees_under};
 ghost use Rattle.xod_recover.specs.Found.{HasRoot, IsRooted, newest_of};
 ghost use Rattle.xod_recover.specs.Reads.{OnlyReads};
 ghost use Rattle.xod_recover.specs.Rooted.{SpellsRoot};
@@ -20,11 +21,11 @@ use crate::device::{read_part, size};
 use crate::ends::{Marked, last_mark};
 use crate::enter::body_file;
 use crate::error::OpenError;
-use crate::reach::walk_root;
+use crate::reach::judge_reached;
 use crate::root::root_in;
 use crate::used::{ends_file, find_used};
 use std::alloc::Global;
-use xod_base::Place;
+use xod_base::{NameList, Place};
 use xod_block::Address;
 use xod_root::RootList;
 use xod_volume::{Volume, VolumeError};
@@ -32,13 +33,15 @@ use xod_volume::{Volume, VolumeError};
 /// How many bytes the longest root record has: one that lists 32 trees of 13 bytes.
 const LONGEST_ROOT: u32 = 427;
 
-/// The newest root that is durable: its commit and the roots of its trees; the log file that it
-/// stands in, where its block ends, how many of that file's marks are open, and how far before the
-/// end the root begins. All are 0 in an empty store.
+/// The newest root that is durable: its commit and the roots of its trees; the names of the types of
+/// its rows, by their numbers; the log file that it stands in, where its block ends, how many of that
+/// file's marks are open, and how far before the end the root begins. All are 0 or empty in an empty
+/// store.
 #[derive(Debug, Drop)]
 pub struct Found {
     pub commit: u64,
     pub roots: RootList,
+    pub kinds: NameList,
     pub file: u32,
     pub end: u64,
     pub marks: u64,
@@ -46,12 +49,14 @@ pub struct Found {
 }
 
 /// What is found in an empty store.
-fn nothing() -> Found
-    ensures { newest_of result ≡ no_newest }
+fn nothing(alloc: Global) -> Found
+    ensures newest { newest_of result ≡ no_newest }
+    ensures kinds { result.kinds ≡ [] }
 {
     Found {
         commit: 0,
         roots: RootList::new(),
+        kinds: NameList::new(alloc),
         file: 0,
         end: 0,
         marks: 0,
@@ -99,7 +104,7 @@ fn root_before<V: Volume>(
     Ok(root_in(bytes.as_slice()))
 }
 
-/// All that the root reaches.
+/// All that the root reaches, and the rows that its trees are the tables of.
 fn judge_trees<V: Volume>(
     alloc: Global,
     volume: &mut V,
@@ -118,6 +123,8 @@ fn judge_trees<V: Volume>(
     ensures found { IsTrue (V.tells volume.old) → IfOk result (λ found.
         by_root (V.files volume.old) marked (Some (rooted.0, entries rooted.1))
         ≡ Ok (newest_of found)) }
+    ensures kinds { IsTrue (V.tells volume.old) → IfOk result (λ found.
+        kinds_of (trees_under (V.files volume.old) (newest_of found)) ≡ Some found.kinds) }
     ensures damaged { IsTrue (V.tells volume.old) → (place : Place)
         → result ≡ Err (OpenError.Damaged place)
         → by_root (V.files volume.old) marked (Some (rooted.0, entries rooted.1)) ≡ Err place }
@@ -137,10 +144,11 @@ fn judge_trees<V: Volume>(
         file: marked.file,
         at: marked.end - u64::from(marked.back),
     };
-    walk_root(alloc, volume, numbers, root, marked.end, roots.as_slice())?;
+    let kinds = judge_reached(alloc, volume, numbers, root, marked.end, &roots)?;
     Ok(Found {
         commit,
         roots,
+        kinds,
         file: marked.file,
         end: marked.end,
         marks: marked.mark + 1,
@@ -165,6 +173,8 @@ fn judge_root<V: Volume>(
     ensures found { IsTrue (V.tells volume.old) → IfOk result (λ found.
         by_root (V.files volume.old) marked (rooted_in (root_bytes (V.files volume.old) marked))
         ≡ Ok (newest_of found)) }
+    ensures kinds { IsTrue (V.tells volume.old) → IfOk result (λ found.
+        kinds_of (trees_under (V.files volume.old) (newest_of found)) ≡ Some found.kinds) }
     ensures damaged { IsTrue (V.tells volume.old) → (place : Place)
         → result ≡ Err (OpenError.Damaged place)
         → by_root (V.files volume.old) marked (rooted_in (root_bytes (V.files volume.old) marked))
@@ -204,6 +214,8 @@ fn judge_back<V: Volume>(
     requires room { 13 * (marked.mark + 2) < 2 ^ 64 }
     ensures found { IsTrue (V.tells volume.old) → IfOk result (λ found.
         by_back (V.files volume.old) marked ≡ Ok (newest_of found)) }
+    ensures kinds { IsTrue (V.tells volume.old) → IfOk result (λ found.
+        kinds_of (trees_under (V.files volume.old) (newest_of found)) ≡ Some found.kinds) }
     ensures damaged { IsTrue (V.tells volume.old) → (place : Place)
         → result ≡ Err (OpenError.Damaged place)
         → by_back (V.files volume.old) marked ≡ Err place }
@@ -240,6 +252,8 @@ fn judge_body<V: Volume>(
     requires room { 13 * (marked.mark + 2) < 2 ^ 64 }
     ensures found { IsTrue (V.tells volume.old) → IfOk result (λ found.
         by_body (V.files volume.old) marked ≡ Ok (newest_of found)) }
+    ensures kinds { IsTrue (V.tells volume.old) → IfOk result (λ found.
+        kinds_of (trees_under (V.files volume.old) (newest_of found)) ≡ Some found.kinds) }
     ensures damaged { IsTrue (V.tells volume.old) → (place : Place)
         → result ≡ Err (OpenError.Damaged place)
         → by_body (V.files volume.old) marked ≡ Err place }
@@ -266,10 +280,13 @@ fn judge_body<V: Volume>(
 }
 
 /// The newest root that is durable in the files of a volume. `Damaged` is the first bad place of
-/// files that are not those of a good store. Nothing is written.
+/// files that are not those of a good store, or the place of a root whose trees are the tables of no
+/// rows. Nothing is written.
 pub fn find_newest<V: Volume>(alloc: Global, volume: &mut V) -> Result<Found, OpenError>
     ensures found { IsTrue (V.tells volume.old) → IfOk result (λ found.
         check (V.files volume.old) ≡ Ok (newest_of found)) }
+    ensures kinds { IsTrue (V.tells volume.old) → IfOk result (λ found.
+        kinds_of (trees_under (V.files volume.old) (newest_of found)) ≡ Some found.kinds) }
     ensures damaged { IsTrue (V.tells volume.old) → (place : Place)
         → result ≡ Err (OpenError.Damaged place)
         → check (V.files volume.old) ≡ Err place }
@@ -289,7 +306,7 @@ pub fn find_newest<V: Volume>(alloc: Global, volume: &mut V) -> Result<Found, Op
 {
     let numbers = volume.files()?;
     match find_used(alloc, volume, &numbers)? {
-        None => Ok(nothing()),
+        None => Ok(nothing(alloc)),
         Some(used) => judge_body(alloc, volume, &numbers, last_mark(&used)),
     }
 }

@@ -1,13 +1,14 @@
 //! Opening a store: the newest root is found, and what stands above it and behind it is cut off.
-ghost use Rattle.std.specs.Prelude.{◌≡◌, ◌<◌, ◌≤◌, ◌+◌, ◌*◌, ◌^◌, ℕ, suc, Ok, Err, IfOk, OnOk, IsTrue};
+ghost use Rattle.std.specs.Prelude.{◌≡◌, ◌<◌, ◌≤◌, ◌+◌, ◌*◌, ◌^◌, ℕ, suc, Some, Ok, Err, IfOk, OnOk, IsTrue};
 ghost use Rattle.xod_base.specs.Causes.{Rose};
 ghost use Rattle.xod_base.specs.declared.causes.Place.{Place};
 ghost use Rattle.xod_volume.specs.Crash.{Passes};
 ghost use Rattle.xod_volume.specs.Files.{Files};
 ghost use Rattle.xod_log.specs.Ends.{IsUsed};
 ghost use Rattle.xod_log.specs.Standing.{AsOpened, last_file};
+ghost use Rattle.xod_audit.specs.Audits.{kinds_of};
 ghost use Rattle.xod_recover.specs.declared.error.OpenError.{OpenError};
-ghost use Rattle.xod_recover.specs.Check.{Newest, check};
+ghost use Rattle.xod_recover.specs.Check.{Newest, check, trees_under};
 ghost use Rattle.xod_recover.specs.Emptied.{AreEmptied};
 ghost use Rattle.xod_recover.specs.Found.{EndsWithRoot, IsRooted, newest_of};
 ghost use Rattle.xod_recover.specs.Images.{AllStore, Settled, Stores, UnusedFrom};
@@ -70,6 +71,8 @@ fn cut_off<V: Volume>(volume: &mut V, found: &Found) -> Result<(), OpenError>
 pub fn recover<V: Volume>(alloc: Global, volume: &mut V) -> Result<Found, OpenError>
     ensures found { IsTrue (V.tells volume.old) → IfOk result (λ found.
         check (V.files volume.old) ≡ Ok (newest_of found)) }
+    ensures kinds { IsTrue (V.tells volume.old) → IfOk result (λ found.
+        kinds_of (trees_under (V.files volume.old) (newest_of found)) ≡ Some found.kinds) }
     ensures damaged { IsTrue (V.tells volume.old) → (place : Place)
         → result ≡ Err (OpenError.Damaged place)
         → check (V.files volume.old) ≡ Err place }

@@ -38,9 +38,8 @@ impl<'a, L: Lease> Fetch for Sealed<'a, L> {
 
     ghost faults = { λ sealed. L.faults sealed.lease.now };
 
-    // The list of the lease is among them, so that it is known when the lease is taken back.
     ghost refs = { λ sealed. sealed.lease.ghost_name ∷ sealed.room.ghost_name
-        ∷ L.list sealed.lease.now };
+        ∷ L.refs sealed.lease.now };
 
     ghost rises = { λ sealed. lent_upto-rises (L.lent sealed.lease.now) sealed.file sealed.end };
 

@@ -8,6 +8,6 @@ use Rattle.xod_recover.proofs.newest.nothing.Goals as goal
 empty_store : List Link → Newest
 empty_store trees = record { file = 0; marks = 0; end = 0; back = 0; commit = 0; trees = trees }
 
-pub returns : goal.returns
+pub returns-clause-newest : goal.returns-clause-newest
 unfolding empty_store
-returns c = ap empty_store (ap entries c.new.ensures ∙ entries-empty)
+returns-clause-newest c = ap empty_store (ap entries c.new.ensures ∙ entries-empty)
