@@ -21,6 +21,7 @@ use Rattle.xod_recover.specs.Opened.{is_used, open_count}
 use Rattle.xod_recover.specs.Tails.{Covers}
 use Rattle.xod_recover.proofs.CallerLemmas.{greatest_alike, same_used}
 use Rattle.xod_root.specs.Roots.{Roots}
+use Rattle.xod_tables.specs.Reading.{rows_of}
 use Rattle.xod_volume.specs.Crash.{OnBytes, OnFile, Passes, Torn}
 use Rattle.xod_volume.specs.Files.{Content, Files, bytes_in, bytes_of}
 use Rattle.xod_volume.proofs.CallerLemmas.{Torn-front, get_other}
@@ -140,6 +141,7 @@ module _ (log : Log) (roots : Roots) (commit : ℕ) (files : Files) (images : Fi
               root = λ lt. ap (drop ((log.end + length block) - back)) own-bytes ∙ root-behind B block log.end back at.stands.size fine.within ∙ fine.root;
             };
             maps = maps-next;
+            tables = ap (λ (t : Trees). is_some (rows_of t)) trees-next ∙ fine.tables;
             first_file = λ none. absurd (omega (arith, none, some));
             first_mark = λ none. absurd (omega (arith, none, some));
             first_seal = λ none. absurd (omega (arith, none, some));
@@ -218,6 +220,7 @@ at-still log now roots commit files after images now_images at is same stands =
       back_fits = at.back_fits;
       newest = at.newest;
       maps = at.maps;
+      tables = at.tables;
       first_file = at.first_file;
       first_mark = at.first_mark;
       first_seal = at.first_seal;

@@ -1,8 +1,9 @@
 -- The first pair is made: where the environment is then, and what is stored in each image on the way.
-use Rattle.std.proofs.Common.{◌≡◌, ◌≤◌, ◌⊎◌, ℕ, false, List, [], ◌∷◌, length, Option, is_some, refl, sym, ◌∙◌, ap, subst, arith, inl, inr}
+use Rattle.std.proofs.Common.{◌≡◌, ◌≤◌, ◌⊎◌, ℕ, true, false, List, [], ◌∷◌, length, Option, is_some, refl, sym, ◌∙◌, ap, subst, arith, inl, inr}
 use Rattle.std.proofs.lemmas.Bool.{cases_eq, cases_lt}
 use Rattle.std.specs.FinMap.{empty, entries, get, len-empty, len-entries}
 use Rattle.std.specs.Ordering.{nat_cmp}
+use Rattle.xod_base.specs.Rows.{no_rows}
 use Rattle.xod_block.specs.declared.address.Address.{Address}
 use Rattle.xod_block.specs.Records.{Fits, FitsRoot, Link}
 use Rattle.xod_log.specs.Calls.{MakesPair}
@@ -14,10 +15,12 @@ use Rattle.xod_recover.specs.Opened.{is_used}
 use Rattle.xod_recover.specs.Stores.{Stored, stored_in}
 use Rattle.xod_recover.proofs.CallerLemmas.{same_used}
 use Rattle.xod_root.specs.Roots.{root_record}
+use Rattle.xod_tables.specs.Reading.{rows_of}
+use Rattle.xod_tables.proofs.CallerLemmas.{no_tables, rows_of_tables}
 use Rattle.xod_volume.specs.Crash.{Passes}
 use Rattle.xod_volume.specs.Files.{Files}
 use Rattle.xod_volume.proofs.CallerLemmas.{same_files}
-use Rattle.xod_env.specs.Envs.{IsAt, no_roots}
+use Rattle.xod_env.specs.Envs.{IsAt, env_trees, no_roots}
 use Rattle.xod_env.proofs.RestStores.{nothing-newest, unused-stores}
 use Rattle.xod_env.proofs.UsedFiles.{used-false}
 
@@ -70,6 +73,11 @@ module _ (was left : Files) (makes : MakesPair 0 was left) where
 pub all-unused : (files : Files) → ((file : ℕ) → file ≤ last_file → ¬ (IsUsed file files)) → UnusedFrom 0 files
 all-unused files unused other le low = used-false files other (unused other low)
 
+first-tables : (files : Files) → is_some (rows_of (env_trees 0 files no_roots)) ≡ true
+first-tables files =
+    let trees = env_trees 0 files no_roots in
+    ap is_some (rows_of_tables trees no_rows (no_tables trees (λ tree. nothing-newest 0 files no_roots tree refl)))
+
 pub first-at : (target : ℕ) (files : Files) (images : Files → Type 0) → UnusedFrom 0 files → Stands (empty_log 0 target) files images → IsAt (empty_log 0 target) no_roots 0 files images
 first-at target files images unused stands = record {
   stands = stands;
@@ -84,6 +92,7 @@ first-at target files images unused stands = record {
     root = λ some. absurd (omega (arith, some));
   };
   maps = λ tree. ap is_some (nothing-newest 0 files no_roots tree refl);
+  tables = first-tables files;
   first_file = λ none. refl;
   first_mark = λ none. refl;
   first_seal = λ none. refl;

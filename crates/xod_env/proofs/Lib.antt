@@ -1,11 +1,12 @@
-mod Answering
 mod Answers
 mod Appended
 mod Counting
 mod FirstPair
 mod Growing
+mod KeyLengths
 mod Leaving
 mod Lending
+mod Naming
 mod NextBlock
 mod Nexting
 mod PairCounts

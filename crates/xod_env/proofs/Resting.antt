@@ -73,6 +73,7 @@ module _ (log : Log) (files : Files) (past images : Files → Type 0) (fewer : (
     back_fits = at.back_fits;
     newest = at.newest;
     maps = at.maps;
+    tables = at.tables;
     first_file = at.first_file;
     first_mark = at.first_mark;
     first_seal = at.first_seal;

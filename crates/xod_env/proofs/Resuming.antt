@@ -1,11 +1,13 @@
 -- Where a root was found, an environment is at its commit.
 use Rattle.std.proofs.Common.{◌≡◌, ◌<◌, ◌≤◌, ℕ, suc, ◌-◌, ◌/◌, ◌%◌, ◌^◌, Bool, true, false, cond, eqb, List, [], ◌∷◌, length, take, drop, Option, Some, None, Ok, is_some, IsSome, refl, sym, ◌∙◌, ap, subst, arith, inl, inr}
 use Rattle.std.specs.Prelude.{nat_lt}
+use Rattle.std.proofs.Math.Path.{fun_ext}
 use Rattle.std.specs.FinMap.{find, get}
 use Rattle.std.specs.List.{AllByRecursion}
 use Rattle.std.specs.Ordering.{eq_by_cmp, nat_cmp}
 use Rattle.std.proofs.lemmas.Bool.{cases_eq, eq-eqb, ltb-true, ne_eqb}
 use Rattle.std.proofs.lemmas.List.{length-drop, take_all}
+use Rattle.xod_base.specs.Views.{Trees}
 use Rattle.xod_block.specs.declared.address.Address.{Address}
 use Rattle.xod_block.specs.Addresses.{number_of}
 use Rattle.xod_block.specs.Maps.{RecordsAt}
@@ -14,11 +16,12 @@ use Rattle.xod_block.specs.Records.{Link, RecordValue}
 use Rattle.xod_log.specs.Ends.{body_of}
 use Rattle.xod_log.specs.Standing.{Stands, last_file, resumed_log}
 use Rattle.xod_recover.specs.declared.newest.Found.{Found}
-use Rattle.xod_recover.specs.Check.{check, records_upto, root_address}
+use Rattle.xod_recover.specs.Check.{check, records_upto, root_address, trees_under}
 use Rattle.xod_recover.specs.Found.{EndsWithRoot, IsRooted, newest_of}
 use Rattle.xod_recover.specs.Images.{UnusedFrom}
 use Rattle.xod_recover.specs.Newest.{IsNewest}
 use Rattle.xod_recover.proofs.CallerLemmas.{check-newest, stored-maps}
+use Rattle.xod_tables.specs.Reading.{rows_of}
 use Rattle.xod_trie.specs.Damage.{AtRoot, Below, IsReached}
 use Rattle.xod_trie.specs.Tries.{trie_map}
 use Rattle.xod_volume.specs.Files.{Content, Files, bytes_in, bytes_of}
@@ -105,6 +108,12 @@ module _ (found : Found) (files : Files) (images : Files → Type 0) (target : �
   had : (tree : ℕ) → IsSome (trie_map R (get found.roots tree))
   had tree = subst (λ (o : Option Address). IsSome (trie_map R o)) (root-get found.roots tree) (stored-maps files (newest_of found) decided tree)
 
+  same-tree : (tree : ℕ) → trees_under files (newest_of found) tree ≡ env_trees found.file files found.roots tree
+  same-tree tree = ap (trie_map R) (root-get found.roots tree) ∙ sym (map-kept R env (get found.roots tree) (only tree) (had tree))
+
+  tables : is_some (rows_of (env_trees found.file files found.roots)) ≡ true
+  tables = ap (λ (t : Trees). is_some (rows_of t)) (sym (fun_ext same-tree)) ∙ newest.tables
+
   maps : (tree : ℕ) → is_some (env_trees found.file files found.roots tree) ≡ true
   maps tree = ap is_some (map-kept R env (get found.roots tree) (only tree) (had tree)) ∙ had tree
 
@@ -124,6 +133,7 @@ module _ (found : Found) (files : Files) (images : Files → Type 0) (target : �
       root = λ lt. root.spelled.spelled;
     };
     maps = maps;
+    tables = tables;
     first_file = λ e. absurd (let lt = more_than in omega (arith, lt, e));
     first_mark = λ e. absurd (let lt = more_than in omega (arith, lt, e));
     first_seal = λ e. refl;

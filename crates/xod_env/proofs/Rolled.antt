@@ -19,11 +19,12 @@ use Rattle.xod_recover.specs.Images.{Stores, UnusedFrom}
 use Rattle.xod_recover.specs.Opened.{greatest_used, is_used, open_count}
 use Rattle.xod_recover.proofs.CallerLemmas.{count_is, greatest-above, greatest_used_is, same_used, used_by_count}
 use Rattle.xod_root.specs.Roots.{Roots}
+use Rattle.xod_tables.specs.Reading.{rows_of}
 use Rattle.xod_volume.specs.Crash.{Passes}
 use Rattle.xod_volume.specs.Files.{Content, Files, bytes_in, bytes_of}
 use Rattle.xod_env.specs.Blocks.{IsNextBlock, records_with, trees_with}
 use Rattle.xod_env.specs.Envs.{ArePlaced, IsAt, IsSteady, bodies_up_to, env_records, env_trees, last_end, newest_stored}
-use Rattle.xod_env.specs.Snapshots.{snapshot_trees}
+use Rattle.xod_snapshot.specs.Snapshots.{snapshot_trees}
 use Rattle.xod_env.proofs.Growing.{block-more}
 use Rattle.xod_env.proofs.Reaching.{body-not, body-up-to, map-kept, same-up-to}
 use Rattle.xod_env.proofs.RestStores.{none-first, rest-count, rest-used}
@@ -183,6 +184,7 @@ module _ (log : Log) (roots : Roots) (commit : ℕ) (files : Files) (images : Fi
               root = λ lt. ap (drop ((0 + length block) - back)) next-bytes ∙ ap (λ (n : ℕ). drop (n - back) block) zero_plus ∙ fine.root;
             };
             maps = maps-rolled;
+            tables = ap (λ (t : Trees). is_some (rows_of t)) trees-rolled ∙ fine.tables;
             first_file = λ none. absurd (omega (arith, none, some));
             first_mark = λ none. absurd (omega (arith, none, some));
             first_seal = λ none. absurd (omega (arith, none, some));

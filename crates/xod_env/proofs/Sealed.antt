@@ -15,9 +15,10 @@ use Rattle.xod_recover.specs.Stores.{Stored}
 use Rattle.xod_recover.specs.Tails.{Covers}
 use Rattle.xod_recover.proofs.CallerLemmas.{greatest_alike, greatest_used_is, same_used}
 use Rattle.xod_root.specs.Roots.{Roots}
+use Rattle.xod_tables.specs.Reading.{rows_of}
 use Rattle.xod_volume.specs.Crash.{Passes}
 use Rattle.xod_volume.specs.Files.{Files, Content, bytes_in, bytes_of}
-use Rattle.xod_env.specs.Snapshots.{snapshot_trees}
+use Rattle.xod_snapshot.specs.Snapshots.{snapshot_trees}
 use Rattle.xod_env.specs.Envs.{ArePlaced, IsAt, IsNewest, IsSound, IsSteady, bodies_up_to, env_trees, newest_stored, sealed_end}
 use Rattle.xod_env.proofs.Reaching.{same-up-to}
 use Rattle.xod_env.proofs.Sealing.{same_bodies}
@@ -88,6 +89,9 @@ module _ (log : Log) (roots : Roots) (commit : ℕ) (files : Files) (images : Fi
   maps-after : (tree : ℕ) → is_some (env_trees log.file after roots tree) ≡ true
   maps-after tree = subst (λ (F : Files). is_some (snapshot_trees F roots tree) ≡ true) (sym same-env) (at.maps tree)
 
+  tables-after : is_some (rows_of (env_trees log.file after roots)) ≡ true
+  tables-after = subst (λ (F : Files). is_some (rows_of (snapshot_trees F roots)) ≡ true) (sym same-env) at.tables
+
   -- the same bytes are sealed
   end-after : sealed_end log after ≡ sealed_end log files
   end-after = elim (cases_lt 0 log.marks) [
@@ -107,6 +111,7 @@ module _ (log : Log) (roots : Roots) (commit : ℕ) (files : Files) (images : Fi
         back_fits = at.back_fits;
         newest = newest-after;
         maps = maps-after;
+        tables = tables-after;
         first_file = at.first_file;
         first_mark = at.first_mark;
         first_seal = at.first_seal;
@@ -128,6 +133,7 @@ module _ (log : Log) (roots : Roots) (commit : ℕ) (files : Files) (images : Fi
       root = newest-after.root;
     };
     maps = maps-after;
+    tables = tables-after;
     first_file = at.first_file;
     first_mark = λ none. absurd (true≢false (sym (at.first_seal none) ∙ unsealed));
     first_seal = λ none. refl;

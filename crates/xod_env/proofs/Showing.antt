@@ -17,14 +17,15 @@ use Rattle.xod_log.specs.declared.log.Log.{Log}
 use Rattle.xod_log.specs.Ends.{numbers, numbers_at, body_of}
 use Rattle.xod_log.specs.Standing.{body_file, ends_file}
 use Rattle.xod_log.proofs.CallerLemmas.{numbers-read}
-use Rattle.xod_recover.specs.Check.{Newest, are_trees, bodies_upto, has_body, records_upto, rooted_by, rooted_in}
+use Rattle.xod_recover.specs.Check.{Newest, are_trees, bodies_upto, has_body, records_upto, root_of, rooted_by, rooted_in, trees_under}
 use Rattle.xod_recover.specs.Images.{UnusedFrom}
 use Rattle.xod_recover.specs.Newest.{IsNewest}
 use Rattle.xod_recover.specs.Opened.{open_count, is_used}
-use Rattle.xod_recover.specs.Stores.{Stored, root_of, stored_in, stored_of}
+use Rattle.xod_recover.specs.Stores.{Stored, stored_in, stored_of}
 use Rattle.xod_recover.specs.Walks.{bad_under, file_at}
 use Rattle.xod_recover.proofs.CallerLemmas.{greatest_is, newest-check, used_by_count, whole-none}
 use Rattle.xod_root.specs.Roots.{Roots, root_record}
+use Rattle.xod_tables.specs.Reading.{rows_of}
 use Rattle.xod_trie.specs.Tries.{trie_map}
 use Rattle.xod_trie.proofs.CallerLemmas.{has_pairs}
 use Rattle.xod_env.specs.Envs.{ArePlaced, IsAt, env_records, env_trees, newest_stored, root_place}
@@ -118,6 +119,17 @@ module _ (log : Log) (roots : Roots) (commit : ℕ) (files : Files) (images : Fi
     abbrev newest : Newest
     newest = record { file = log.file; marks = marks; end = log.end; back = log.back; commit = commit; trees = entries roots }
 
+    below-root : (tree : ℕ) (place : Address) → get roots tree ≡ Some place → number_of place < number_of root
+    below-root tree place is = ltb-true (number_of place) (number_of root) (get-test (λ at. nat_lt (number_of at) (number_of root)) roots tree place placed.below is)
+
+    tree-same : (tree : ℕ) → trie_map R (root_of (entries roots) tree) ≡ env_trees log.file files roots tree
+    tree-same tree =
+        ap (trie_map R) (root-get roots tree)
+        ∙ map-kept env R (get roots tree) (λ place is n item le there. more n item (omega (arith, le, below-root tree place is)) there) (at.maps tree)
+
+    tables : is_some (rows_of (trees_under left newest)) ≡ true
+    tables = ap (λ (t : Trees). is_some (rows_of t)) (fun_ext tree-same) ∙ at.tables
+
     is-newest : IsNewest left newest
     is-newest =
         let ends = bytes_of left (ends_file log) in
@@ -133,15 +145,8 @@ module _ (log : Log) (roots : Roots) (commit : ℕ) (files : Files) (images : Fi
           within = at.newest.within;
           root = ap (λ (l : List ℕ). rooted_in (drop (log.end - log.back) l)) own-front ∙ ap rooted_in (at.newest.root more_than) ∙ spelled-rooted commit roots at.newest.fits placed.numbered;
           whole = none-listed (bad_under R (has_body left) root) (λ link. get roots link.0 ≡ Some link.1) (λ link. nat_lt (number_of link.1) (number_of root)) whole (entries roots) (listed-get roots) placed.below;
+          tables = tables;
         }
-
-    below-root : (tree : ℕ) (place : Address) → get roots tree ≡ Some place → number_of place < number_of root
-    below-root tree place is = ltb-true (number_of place) (number_of root) (get-test (λ at. nat_lt (number_of at) (number_of root)) roots tree place placed.below is)
-
-    tree-same : (tree : ℕ) → trie_map R (root_of (entries roots) tree) ≡ env_trees log.file files roots tree
-    tree-same tree =
-        ap (trie_map R) (root-get roots tree)
-        ∙ map-kept env R (get roots tree) (λ place is n item le there. more n item (omega (arith, le, below-root tree place is)) there) (at.maps tree)
 
     pub shows-stored : stored_in left ≡ Some (newest_stored log.file files roots commit)
     shows-stored =

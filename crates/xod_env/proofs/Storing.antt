@@ -17,9 +17,9 @@ use Rattle.xod_block.specs.declared.address.Address.{Address}
 use Rattle.xod_block.specs.Records.{Link}
 use Rattle.xod_volume.specs.Files.{Files, Content, bytes_in, bytes_of}
 use Rattle.xod_log.specs.Ends.{numbers_at, end_at, back_at, body_of, ends_of}
-use Rattle.xod_recover.specs.Check.{Newest, check, check_body, check_file, check_used, has_body}
+use Rattle.xod_recover.specs.Check.{Newest, check, check_body, check_file, check_used, has_body, root_of}
 use Rattle.xod_recover.specs.Opened.{open_count, is_used, greatest_used}
-use Rattle.xod_recover.specs.Stores.{root_of, stored_in, stored_of}
+use Rattle.xod_recover.specs.Stores.{stored_in, stored_of}
 use Rattle.xod_recover.specs.Tails.{Covers}
 use Rattle.xod_recover.proofs.CallerLemmas.{agree-by, marked, long-agree, size-agree, greatest_alike}
 use Rattle.xod_recover.specs.Walks.{first_bad, or_else}

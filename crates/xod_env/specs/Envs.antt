@@ -19,9 +19,10 @@ use Rattle.xod_recover.specs.Stores.{Stored}
 use Rattle.xod_recover.specs.Tails.{Covers}
 use Rattle.xod_pages.specs.Lent.{lent_bodies}
 use Rattle.xod_root.specs.Roots.{Roots, root_record}
+use Rattle.xod_tables.specs.Reading.{rows_of}
 use Rattle.xod_volume.specs.Files.{Files, bytes_of}
 use Rattle.xod_env.specs.Bodies.{is_body_up_to}
-use Rattle.xod_env.specs.Snapshots.{snapshot_trees}
+use Rattle.xod_snapshot.specs.Snapshots.{snapshot_trees}
 
 -- ---- files
 
@@ -86,7 +87,8 @@ abbrev pub sealed_end : Log → Files → ℕ
 sealed_end log files = if log.marks == 0 then 0 else end_at (bytes_of files (ends_file log)) (pred log.marks)
 
 -- An environment is at this commit on a volume with these files, of which a crash may leave these images: its log stands
--- there; its commit and roots are those of the newest block, and each tree has a map; a log without a block is that of the
+-- there; its commit and roots are those of the newest block, each tree has a map, and the trees are the tables of some
+-- rows; a log without a block is that of the
 -- first file, of which no mark is open; no log file above the current one is used; and what is sealed of the current body
 -- is no longer than it.
 pub record IsAt (log : Log) (roots : Roots) (commit : ℕ) (files : Files) (images : Files → Type 0) : Type 0 where
@@ -96,6 +98,7 @@ pub record IsAt (log : Log) (roots : Roots) (commit : ℕ) (files : Files) (imag
   pub back_fits : log.back < 2 ^ 32
   pub newest : IsNewest log roots commit (bytes_of files (body_file log))
   pub maps : (tree : ℕ) → is_some (env_trees log.file files roots tree) ≡ true
+  pub tables : is_some (rows_of (env_trees log.file files roots)) ≡ true
   pub first_file : log.end ≡ 0 → log.file ≡ 0
   pub first_mark : log.end ≡ 0 → log.marks ≡ 0
   pub first_seal : log.end ≡ 0 → log.is_sealed ≡ true

@@ -1,16 +1,21 @@
 -- What a flush answers, and what a refusal leaves.
-use Rattle.std.specs.Prelude.{◌≡◌, ◌≢◌, ◌⊎◌, ℕ, Bool, false, IsTrue, List, Some, Result, IsErr, IsErrOf, OnOk}
+use Rattle.std.specs.Prelude.{◌≡◌, ◌≢◌, ◌≤◌, ◌⊎◌, ℕ, suc, Bool, true, false, if◌then◌else◌, IsTrue, List, Some, Result, Ok, Err, IsErr, IsErrOf, OnOk}
 use Rattle.std.specs.FinMap.{empty}
 use Rattle.xod_base.specs.Views.{Trees}
 use Rattle.xod_log.specs.declared.error.LogError.{LogError}
 use Rattle.xod_log.specs.declared.error.LogError.TheVariants.{Device}
 use Rattle.xod_log.specs.declared.log.Log.{Log}
-use Rattle.xod_log.specs.Standing.{last_file}
+use Rattle.xod_log.specs.Standing.{is_due, is_last, last_file}
 use Rattle.xod_overlay.specs.Marks.{TouchMap}
 use Rattle.xod_recover.specs.Images.{Stores}
 use Rattle.xod_root.specs.Roots.{Roots}
 use Rattle.xod_volume.specs.Crash.{Passes}
 use Rattle.xod_volume.specs.Files.{Files}
+use Rattle.xod_env.specs.declared.error.FlushError.{FlushError}
+use Rattle.xod_env.specs.declared.error.FlushError.TheVariants as flush_error
+use Rattle.xod_env.specs.declared.error.FlushError.TheVariants.{Broken, Damaged, NumbersSpent, Memory, Conflict}
+use Rattle.xod_env.specs.declared.flushed.Flushed.{Flushed}
+use Rattle.xod_env.specs.declared.flushed.Flushed.TheVariants.{Nothing, Commit}
 use Rattle.xod_env.specs.Blocks.{IsNextBlock, trees_with}
 use Rattle.xod_env.specs.Envs.{ArePlaced, IsAt, IsOpenOn, IsSteady, env_trees, newest_stored}
 
@@ -31,9 +36,40 @@ pub record IsConflict (was_broken : Bool) (touches : ℕ → TouchMap) (base com
   pub seen_is : seen ≡ base
   pub now_is : now ≡ commit
 
+-- the last log file is as long as its target, so that a next one would be needed
+pub record IsFileSpent (log : Log) (last : ℕ) : Type 0 where
+  pub due : is_due log ≡ true
+  pub at_last : is_last log ≡ true
+  pub last_is : last ≡ last_file
+
 -- which number was the last one: that of a commit, or that of a log file
-abbrev pub IsSpent : ℕ → ℕ → ℕ → Type 0
-IsSpent commit file last = ((commit ≡ last_commit) × (last ≡ last_commit)) ⊎ ((file ≡ last_file) × (last ≡ last_file))
+abbrev pub IsSpent : ℕ → Log → ℕ → Type 0
+IsSpent commit log last = ((commit ≡ last_commit) × (last ≡ last_commit)) ⊎ IsFileSpent log last
+
+-- The log goes on in the file that it was in or, where a commit found it as long as its target, in the next one; its
+-- target is the same. After a write that failed it may be in either.
+pub record GoesOn (before after : Log) (has_committed has_failed : Bool) : Type 0 where
+  pub target : after.target ≡ before.target
+  pub rises : before.file ≤ after.file
+  pub within : after.file ≤ suc before.file
+  pub committed : IsTrue has_committed → after.file ≡ (if is_due before then suc before.file else before.file)
+  pub refused : has_committed ≡ false → has_failed ≡ false → after.file ≡ before.file
+
+-- whether a flush made a commit
+abbrev pub is_commit : Result Flushed FlushError → Bool
+is_commit (Ok Nothing) = false
+is_commit (Ok (Commit version)) = true
+is_commit (Err error) = false
+
+-- whether it answers that the device failed
+abbrev pub is_failure : {A : Type 0} → Result A FlushError → Bool
+is_failure (Ok answer) = false
+is_failure (Err Broken) = false
+is_failure (Err flush_error.Device) = true
+is_failure (Err (Damaged place)) = false
+is_failure (Err (NumbersSpent last)) = false
+is_failure (Err Memory) = false
+is_failure (Err (Conflict base now)) = false
 
 -- The newest commit, its roots and its trees are as they were.
 pub record KeepsCommit (told : Bool) (commit_before commit_now : ℕ) (roots_before roots_now : Roots) (trees_before trees_now : Trees) : Type 0 where

@@ -7,4 +7,3 @@ pub mod Envs
 pub mod Errors
 pub mod Flushes
 pub mod Opening
-pub mod Snapshots

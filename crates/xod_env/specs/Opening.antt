@@ -1,12 +1,17 @@
 -- What an opening leaves of a volume.
 use base.Fml.{GName}
-use Rattle.std.specs.Prelude.{◌≡◌, ℕ, Bool, IsTrue, List}
+use Rattle.std.specs.Prelude.{◌≡◌, ℕ, Bool, IsTrue, List, Option, option_and_then}
+use Rattle.xod_audit.specs.Audits.{kinds_of}
 use Rattle.xod_recover.specs.Check.{check}
 use Rattle.xod_recover.specs.Images.{Settled, Stores}
 use Rattle.xod_recover.specs.Stores.{stored_in}
 use Rattle.xod_volume.specs.Crash.{Passes}
 use Rattle.xod_volume.specs.Files.{Files}
 use Rattle.xod_volume.specs.Leases.{Stays}
+
+-- the names of the types of what files store
+abbrev pub kinds_in : Files → Option (List (List ℕ))
+kinds_in files = option_and_then (λ stored. kinds_of stored.trees) (stored_in files)
 
 -- Whatever was answered: the check decides as before, and the same is stored; where reads gave an image they do so still; and
 -- an image of a volume that was settled stores what it did. The members are those of a volume's trait.

@@ -2,7 +2,7 @@
 //!
 //! It lends snapshots of its newest commit, commits touched keys over it, and makes it outlive a crash. How it is opened
 //! stands in `opening`, and the steps of a flush in `flush`. What it is open on stands in `specs/Envs.antt`.
-ghost use Rattle.std.specs.Prelude.{◌≡◌, ◌≤◌, Ok, Err, IfSome, ◌∷◌, ◌↔◌, ◌<◌, ◌+◌, ◌^◌, ℕ, false, true, if◌then◌else◌, is_ok, IfOk, IsErrOf, IsTrue, OnErr, OnOk, Some};
+ghost use Rattle.std.specs.Prelude.{◌≡◌, ◌≤◌, Ok, Err, is_some, ◌∷◌, ◌↔◌, ◌<◌, ◌+◌, ◌^◌, ℕ, false, true, if◌then◌else◌, is_ok, IfOk, IsErr, IsErrOf, IsTrue, OnErr, OnOk, Some};
 ghost use Rattle.std.specs.FinMap.{keys};
 ghost use Rattle.std.specs.List.{filter};
 ghost use Rattle.std.proofs.Props.{props};
@@ -14,7 +14,7 @@ ghost use Rattle.xod_log.specs.Standing.{is_due, is_last, last_file, next_place_
 ghost use Rattle.xod_overlay.specs.Marks.{overlaid_trees, touched};
 ghost use Rattle.xod_recover.specs.Images.{AllStore, Settled, Stores};
 ghost use Rattle.xod_root.specs.Roots.{Roots};
-ghost use Rattle.xod_trie_mut.specs.Changes.{KeysFit};
+ghost use Rattle.xod_tables.specs.Reading.{rows_of};
 ghost use Rattle.xod_volume.specs.Crash.{Passes};
 ghost use Rattle.xod_volume.specs.Leases.{Added, Stays, without};
 ghost use Rattle.xod_env.specs.declared.error.EnvError.{EnvError};
@@ -25,21 +25,22 @@ ghost use Rattle.xod_env.specs.Bodies.{is_body_up_to};
 ghost use Rattle.xod_env.specs.Building.{IsPlacedAt};
 ghost use Rattle.xod_env.specs.EnvCalls.{KeepsFiles, KeepsNewest, Refuses};
 ghost use Rattle.xod_env.specs.Envs.{ArePlaced, IsOpenOn, IsSteady, env_trees, newest_stored};
-ghost use Rattle.xod_env.specs.Flushes.{IsConflict, IsSpent, IsUntouched, KeepsCommit, last_commit};
-ghost use Rattle.xod_env.specs.Snapshots.{snapshot_trees};
+ghost use Rattle.xod_env.specs.Flushes.{GoesOn, IsConflict, IsFileSpent, IsSpent, IsUntouched, KeepsCommit, is_commit, is_failure, last_commit};
+ghost use Rattle.xod_snapshot.specs.Snapshots.{snapshot_trees};
 
 use crate::error::{EnvError, FlushError};
 use crate::flush::{NO_PLACE, build_next, has_room, write_block};
 use crate::flushed::Flushed;
 use crate::lend::lend_bodies;
 use crate::parts::seal_newest;
-use crate::snapshot::Snapshot;
 use std::alloc::Global;
+use xod_base::NameList;
 use xod_commit::Built;
 use xod_log::{Log, LogError};
 use xod_overlay::Overlay;
 use xod_pages::Pages;
 use xod_root::RootList;
+use xod_snapshot::Snapshot;
 use xod_volume::Volume;
 
 /// The newest commit of a store, over the files of a volume.
@@ -52,6 +53,7 @@ pub struct Env<V: Volume> {
     roots: RootList,
     commit: u64,
     file_count: u64,
+    kinds: NameList,
     is_broken: bool,
     ghost opened: { is_broken ≡ false → IsTrue (V.tells volume) → IsOpenOn log roots
         commit file_count (V.files volume) (V.may_leave volume (V.moment volume)) } by { Prim.hlevel props },
@@ -61,7 +63,14 @@ pub struct Env<V: Volume> {
 impl<V: Volume> Env<V> {
     /// An environment on a volume where a log stands, with the commit and the roots of its newest block and the number of
     /// log files.
-    pub(crate) fn over(volume: V, log: Log, roots: RootList, commit: u64, file_count: u64) -> Self
+    pub(crate) fn over(
+        volume: V,
+        log: Log,
+        roots: RootList,
+        commit: u64,
+        file_count: u64,
+        kinds: NameList,
+    ) -> Self
         requires opened { IsTrue (V.tells volume) → IsOpenOn log roots commit file_count
             (V.files volume) (V.may_leave volume (V.moment volume)) }
         requires placed { ArePlaced log roots }
@@ -70,6 +79,7 @@ impl<V: Volume> Env<V> {
         ensures roots { result.roots ≡ roots }
         ensures commit { result.commit ≡ commit }
         ensures count { result.file_count ≡ file_count }
+        ensures kinds { result.kinds ≡ kinds }
         ensures unbroken { result.is_broken ≡ false }
     {
         Env {
@@ -78,6 +88,7 @@ impl<V: Volume> Env<V> {
             roots,
             commit,
             file_count,
+            kinds,
             is_broken: false,
         }
     }
@@ -103,6 +114,13 @@ impl<V: Volume> Env<V> {
         self.file_count
     }
 
+    /// The names of the types, by their numbers, as they were when it was opened.
+    pub fn kinds(&self) -> &NameList
+        ensures { result.now ≡ self.now.kinds }
+    {
+        &self.kinds
+    }
+
     /// A snapshot of the newest commit. Its lease is of the bodies up to that of the current log file.
     pub fn pin(&mut self, alloc: Global) -> Result<Snapshot<V::Held>, EnvError>
         ensures version { IfOk result (λ snapshot. snapshot.version ≡ self.old.commit) }
@@ -124,6 +142,7 @@ impl<V: Volume> Env<V> {
             V.leases self.new.volume ≡ V.leases self.old.volume) }
         ensures broken_before_all { self.old.is_broken ≡ true → self.new ≡ self.old }
         ensures broken_as_before { self.new.is_broken ≡ self.old.is_broken }
+        ensures kinds { self.new.kinds ≡ self.old.kinds }
         ensures log { self.new.log ≡ self.old.log }
         ensures newest { KeepsNewest self.old.roots self.new.roots
             self.old.commit self.new.commit self.old.file_count self.new.file_count }
@@ -155,6 +174,7 @@ impl<V: Volume> Env<V> {
         ensures added { Added (V.faults self.old.volume) (V.Held.faults snapshot.lease)
             (V.faults self.new.volume) }
         ensures broken_as_before { self.new.is_broken ≡ self.old.is_broken }
+        ensures kinds { self.new.kinds ≡ self.old.kinds }
         ensures log { self.new.log ≡ self.old.log }
         ensures newest { KeepsNewest self.old.roots self.new.roots
             self.old.commit self.new.commit self.old.file_count self.new.file_count }
@@ -193,6 +213,8 @@ impl<V: Volume> Env<V> {
             (env_trees self.new.log.file (V.files self.new.volume) self.new.roots)) }
         ensures breaks_exactly { (self.new.is_broken ≡ true) ↔ IsErrOf result LogError.Device }
         ensures numbers_stay { (last : ℕ) → ¬ (IsErrOf result (LogError.NumbersSpent last)) }
+        ensures goes_on { GoesOn self.old.log self.new.log (is_ok result) false }
+        ensures kinds { self.new.kinds ≡ self.old.kinds }
         ensures failed { IsErrOf result LogError.Device
             → Rose (V.faults self.old.volume) (V.faults self.new.volume) }
         ensures unfailed { ¬ (IsErrOf result LogError.Device)
@@ -227,6 +249,7 @@ impl<V: Volume> Env<V> {
             commit,
             file_count,
             is_broken,
+            ..
         } = self;
         let Built {
             block,
@@ -253,9 +276,9 @@ impl<V: Volume> Env<V> {
         requires whole { self.old.is_broken ≡ false }
         requires numbers_left { self.old.commit + 1 < 2 ^ 64 }
         requires fit { Fit (touched changes.now) }
-        requires keys_fit { IsTrue (V.tells self.old.volume) → (tree : ℕ)
-            → IfSome (env_trees self.old.log.file (V.files self.old.volume) self.old.roots tree)
-            KeysFit }
+        requires rows { IsTrue (V.tells self.old.volume)
+            → is_some (rows_of (overlaid_trees (touched changes.now)
+            (env_trees self.old.log.file (V.files self.old.volume) self.old.roots))) ≡ true }
         ensures committed { OnOk result (self.new.commit ≡ self.old.commit + 1) }
         ensures trees { IsTrue (V.tells self.old.volume) → OnOk result ((tree : ℕ)
             → env_trees self.new.log.file (V.files self.new.volume) self.new.roots tree
@@ -270,7 +293,11 @@ impl<V: Volume> Env<V> {
         ensures no_other { (¬ (IsErrOf result FlushError.Broken)) × ((seen now : ℕ)
             → ¬ (IsErrOf result (FlushError.Conflict seen now))) }
         ensures spent_by_file { (last : ℕ) → IsErrOf result (FlushError.NumbersSpent last)
-            → (self.old.log.file ≡ last_file) × (last ≡ last_file) }
+            → IsFileSpent self.old.log last }
+        ensures room { is_due self.old.log ≡ true → is_last self.old.log ≡ true → IsErr result }
+        ensures goes_on { GoesOn self.old.log self.new.log (is_ok result)
+            (is_failure result) }
+        ensures kinds { self.new.kinds ≡ self.old.kinds }
         ensures never_damaged { IsTrue (V.tells self.old.volume) → (place : Place)
             → ¬ (IsErrOf result (FlushError.Damaged place)) }
         ensures device { IsErrOf result FlushError.Device
@@ -329,9 +356,9 @@ impl<V: Volume> Env<V> {
     ) -> Result<Flushed, FlushError>
         requires seen { base ≤ self.old.commit }
         requires fit { Fit (touched changes.now) }
-        requires keys_fit { IsTrue (V.tells self.old.volume) → self.old.is_broken ≡ false
-            → (tree : ℕ) → IfSome (env_trees self.old.log.file (V.files self.old.volume)
-            self.old.roots tree) KeysFit }
+        requires rows { IsTrue (V.tells self.old.volume) → self.old.is_broken ≡ false
+            → base ≡ self.old.commit → is_some (rows_of (overlaid_trees (touched changes.now)
+            (env_trees self.old.log.file (V.files self.old.volume) self.old.roots))) ≡ true }
         ensures committed { (version : ℕ) → result ≡ Ok (Flushed.Commit version)
             → (version ≡ self.old.commit + 1) × (self.new.commit ≡ version) }
         ensures trees { IsTrue (V.tells self.old.volume) → (version tree : ℕ)
@@ -356,7 +383,11 @@ impl<V: Volume> Env<V> {
             → self.old.commit ≡ last_commit
             → (result ≡ Err (FlushError.NumbersSpent last_commit)) × (self.new ≡ self.old) }
         ensures spent_only { (last : ℕ) → result ≡ Err (FlushError.NumbersSpent last)
-            → IsSpent self.old.commit self.old.log.file last }
+            → IsSpent self.old.commit self.old.log last }
+        ensures spent_by_file { is_due self.old.log ≡ true → is_last self.old.log ≡ true
+            → is_commit result ≡ false }
+        ensures goes_on { GoesOn self.old.log self.new.log (is_commit result) (is_failure result) }
+        ensures kinds { self.new.kinds ≡ self.old.kinds }
 
         // Each refusal.
         ensures refused { OnErr result (KeepsCommit (V.tells self.old.volume)
@@ -431,6 +462,7 @@ impl<V: Volume> Env<V> {
             → (self.new.is_broken ≡ true) ↔ IsErrOf result EnvError.Device }
         ensures log { self.new.log
             ≡ (if is_ok result then sealed_log self.old.log else self.old.log) }
+        ensures kinds { self.new.kinds ≡ self.old.kinds }
         ensures newest { KeepsNewest self.old.roots self.new.roots
             self.old.commit self.new.commit self.old.file_count self.new.file_count }
         ensures trees { IsTrue (V.tells self.old.volume) → (roots : Roots)
@@ -524,6 +556,7 @@ impl<V: Volume> Env<V> {
             roots: _,
             commit: _,
             file_count: _,
+            kinds: _,
             is_broken: _,
         } = env;
         (volume, answer)

@@ -18,7 +18,7 @@ ghost use Rattle.xod_volume.specs.Leases.{Stays};
 ghost use Rattle.xod_env.specs.Building.{IsBlockOf};
 ghost use Rattle.xod_env.specs.EnvCalls.{KeepsFiles};
 ghost use Rattle.xod_env.specs.Envs.{ArePlaced, bodies_up_to, env_records, env_trees};
-ghost use Rattle.xod_env.specs.Flushes.{WritesBlock};
+ghost use Rattle.xod_env.specs.Flushes.{IsFileSpent, WritesBlock};
 
 use crate::count::{count_next, lists_next};
 use crate::kept::build_kept;
@@ -39,7 +39,7 @@ pub(crate) const NO_PLACE: u64 = 1 << 63;
 /// Whether a block may come: a roll is not due where there is no log file to roll to.
 pub(crate) fn has_room(log: &Log) -> bool
     ensures room { IsTrue result → is_due log.now ≡ true → is_last log.now ≡ false }
-    ensures none { result ≡ false → log.now.file ≡ last_file }
+    ensures none { result ≡ false → IsFileSpent log.now last_file }
 {
     !(log.is_due() && log.file() == u32::MAX)
 }

@@ -2,7 +2,7 @@
 //!
 //! The crates above open an `Env` on a volume, read its newest commit through a `Snapshot`, flush the touched keys of a
 //! transaction to it, and learn from `EnvError` and `FlushError` why a call failed. What a snapshot has stands in
-//! `specs/Snapshots.antt`, what an environment is open on and what a crash leaves of it in `specs/Envs.antt`.
+//! `xod_snapshot`, what an environment is open on and what a crash leaves of it in `specs/Envs.antt`.
 #![tactic(auto)]
 
 mod bodies;
@@ -17,12 +17,11 @@ mod lend;
 mod opening;
 mod parts;
 mod reads;
-mod snapshot;
 mod steady;
 
 pub use env::Env;
 pub use error::{EnvError, FlushError};
 pub use flushed::Flushed;
-pub use laws::{bodies_are_lent_whole, pages_change_no_tree};
-pub use snapshot::Snapshot;
+pub use laws::bodies_are_lent_whole;
 pub use steady::settled_volumes_are_steady;
+pub use xod_snapshot::{Snapshot, pages_change_no_tree};

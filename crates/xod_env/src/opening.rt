@@ -5,6 +5,7 @@
 ghost use Rattle.std.specs.Prelude.{◌≡◌, ◌<◌, ◌≤◌, ℕ, true, false, Err, IfErr, IfOk, IsErrOf, IsTrue, OnOk, Some};
 ghost use Rattle.xod_base.specs.Causes.{Rose};
 ghost use Rattle.xod_base.specs.declared.causes.Place.{Place};
+ghost use Rattle.xod_audit.specs.Audits.{kinds_of};
 ghost use Rattle.xod_log.specs.Ends.{IsUsed};
 ghost use Rattle.xod_log.specs.Standing.{empty_log, last_file};
 ghost use Rattle.xod_recover.specs.declared.error.OpenError.{OpenError};
@@ -13,14 +14,15 @@ ghost use Rattle.xod_recover.specs.Images.{Settled, UnusedFrom};
 ghost use Rattle.xod_recover.specs.Reads.{OnlyReads};
 ghost use Rattle.xod_recover.specs.Stores.{stored_in};
 ghost use Rattle.xod_volume.specs.declared.volume.VolumeError.{VolumeError};
-ghost use Rattle.xod_env.specs.Envs.{ArePlaced, IsAt, IsOpenOn, IsSteady, log_file_count, most_target, newest_stored, no_roots};
-ghost use Rattle.xod_env.specs.Opening.{LeavesStored};
+ghost use Rattle.xod_env.specs.Envs.{ArePlaced, IsAt, IsOpenOn, IsSteady, env_trees, log_file_count, most_target, newest_stored, no_roots};
+ghost use Rattle.xod_env.specs.Opening.{LeavesStored, kinds_in};
 
 use crate::count::count_log_files;
 use crate::env::Env;
 use crate::parts::make_first;
 use crate::steady::settled_volumes_are_steady;
 use std::alloc::Global;
+use xod_base::NameList;
 use xod_log::{Log, LogError, stands_after_opening};
 use xod_recover::{Found, OpenError, recover};
 use xod_root::RootList;
@@ -62,6 +64,7 @@ struct Start {
     log: Log,
     roots: RootList,
     commit: u64,
+    kinds: NameList,
 }
 
 /// Finds the newest commit, and makes the first log file where none is used. The log has nothing to seal.
@@ -72,6 +75,8 @@ fn find_start<V: Volume>(alloc: Global, volume: &mut V, target: u64) -> Result<S
         IsAt start.log start.roots start.commit
         (V.files volume.new) (V.may_leave volume.new (V.moment volume.new))) }
     ensures placed { IfOk result (λ start. ArePlaced start.log start.roots) }
+    ensures kinds { IsTrue (V.tells volume.old) → IfOk result (λ start.
+        kinds_in (V.files volume.old) ≡ Some start.kinds) }
     ensures target { IfOk result (λ start. start.log.target ≡ target) }
     ensures sealed { IfOk result (λ start. start.log.is_sealed ≡ true) }
     ensures damaged { IsTrue (V.tells volume.old) → (place : Place)
@@ -101,6 +106,7 @@ fn find_start<V: Volume>(alloc: Global, volume: &mut V, target: u64) -> Result<S
             log,
             roots: found.roots,
             commit: found.commit,
+            kinds: found.kinds,
         });
     }
     let log = Log::resume(found.file, found.end, found.marks, found.back, target);
@@ -108,6 +114,7 @@ fn find_start<V: Volume>(alloc: Global, volume: &mut V, target: u64) -> Result<S
         log,
         roots: found.roots,
         commit: found.commit,
+        kinds: found.kinds,
     })
 }
 
@@ -141,6 +148,8 @@ fn open_on<V: Volume>(alloc: Global, volume: &mut V, target: u64) -> Result<Open
         IsOpenOn opened.start.log opened.start.roots opened.start.commit opened.file_count
         (V.files volume.new) (V.may_leave volume.new (V.moment volume.new))) }
     ensures placed { IfOk result (λ opened. ArePlaced opened.start.log opened.start.roots) }
+    ensures kinds { IsTrue (V.tells volume.old) → IfOk result (λ opened.
+        kinds_in (V.files volume.old) ≡ Some opened.start.kinds) }
     ensures target { IfOk result (λ opened. opened.start.log.target ≡ target) }
     ensures sealed { IfOk result (λ opened. opened.start.log.is_sealed ≡ true) }
     ensures damaged { IsTrue (V.tells volume.old) → (place : Place)
@@ -176,6 +185,9 @@ impl<V: Volume> Env<V> {
         ensures found { IsTrue (V.tells volume) → IfOk result (λ env.
             stored_in (V.files volume) ≡ Some (newest_stored env.log.file (V.files env.volume)
             env.roots env.commit)) }
+        ensures kinds { IsTrue (V.tells volume) → IfOk result (λ env.
+            kinds_of (env_trees env.log.file (V.files env.volume) env.roots)
+            ≡ Some env.kinds) }
         ensures target { IfOk result (λ env. env.log.target ≡ target) }
         ensures sealed { IfOk result (λ env. env.log.is_sealed ≡ true) }
         ensures unbroken { IfOk result (λ env. env.is_broken ≡ false) }
@@ -211,7 +223,12 @@ impl<V: Volume> Env<V> {
         };
         settled_volumes_are_steady::<V>();
         let Opened { start, file_count } = opened;
-        let Start { log, roots, commit } = start;
-        Ok(Env::over(volume, log, roots, commit, file_count))
+        let Start {
+            log,
+            roots,
+            commit,
+            kinds,
+        } = start;
+        Ok(Env::over(volume, log, roots, commit, file_count, kinds))
     }
 }

@@ -4,7 +4,7 @@ use Rattle.xod_block.specs.declared.address.Address.{Address}
 use Rattle.xod_commit.specs.Blocks.{all_begin_before}
 use Rattle.xod_volume.specs.Files.{Files}
 use Rattle.xod_env.specs.Envs.{bodies_up_to}
-use Rattle.xod_env.specs.Snapshots.{lent_trie}
+use Rattle.xod_snapshot.specs.Snapshots.{lent_trie}
 use Rattle.xod_env.proofs.Placing.{roots_before_next}
 use Rattle.xod_env.proofs.flush.build_next.Goals as goal
 

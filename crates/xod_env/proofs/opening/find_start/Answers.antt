@@ -2,9 +2,11 @@ use Rattle.std.proofs.Common.{rules, ◌≡◌, ◌<◌, ℕ, IsTrue, sym, subst
 use Rattle.xod_log.specs.declared.log.Log.{Log}
 use Rattle.xod_log.specs.Standing.{Stands, resumed_log}
 use Rattle.xod_recover.specs.Check.{Newest}
+use Rattle.xod_recover.specs.Found.{newest_of}
 use Rattle.xod_root.specs.Roots.{Roots}
 use Rattle.xod_env.specs.Envs.{IsAt, no_roots}
 use Rattle.xod_env.proofs.Leaving.{leaves_then, recovers_leaves}
+use Rattle.xod_env.proofs.Naming.{kinds_found}
 use Rattle.xod_env.proofs.Resuming.{resumed_at}
 use Rattle.xod_env.proofs.Starting.{nothing_listed}
 use Rattle.xod_env.proofs.opening.find_start.Goals as goal
@@ -47,3 +49,13 @@ returns-clause-at g c told =
     c.stands_after_opening.ensures c.recover.new.volume found.file found.end found.marks found.back c.args.target opened in
     subst (λ (log : Log). IsAt log found.roots found.commit files images) (sym c.resume-log.ensures)
     (resumed_at found files images c.args.target (c.recover.ensures.recovers.decided told ∙ ok.found told) some ok.rooted (ok.root told some) (ok.nothing_above told) (search rules) (search rules) stands)
+
+pub returns-then-found-eq0-clause-kinds : goal.returns-then-found-eq0-clause-kinds
+returns-then-found-eq0-clause-kinds g c told =
+    let found = c.in_ok-found.found in
+    kinds_found (g.V.Volume.files c.args.volume.now) (newest_of found) found.kinds (c.in_ok-found.ensures.found told) (c.in_ok-found.ensures.kinds told)
+
+pub returns-clause-kinds : goal.returns-clause-kinds
+returns-clause-kinds g c told =
+    let found = c.in_ok-found.found in
+    kinds_found (g.V.Volume.files c.args.volume.now) (newest_of found) found.kinds (c.in_ok-found.ensures.found told) (c.in_ok-found.ensures.kinds told)

@@ -6,7 +6,7 @@ use Rattle.xod_recover.specs.Images.{AllStore}
 use Rattle.xod_recover.specs.Stores.{Stored}
 use Rattle.xod_volume.specs.Files.{Content, Files, bytes_of}
 use Rattle.xod_env.specs.Envs.{IsAt, IsSteady}
-use Rattle.xod_env.specs.Snapshots.{snapshot_trees}
+use Rattle.xod_snapshot.specs.Snapshots.{snapshot_trees}
 use Rattle.xod_env.proofs.Answers.{not-err, on-ok}
 use Rattle.xod_env.proofs.RestStores.{steady-settled, steady-stored}
 use Rattle.xod_env.proofs.Sealed.{at-either, either-answered, either-placed, newest-either, now-sealed, pair-ends, seal-front, since-seal, steady-either}

@@ -6,6 +6,7 @@ use Rattle.xod_volume.specs.Crash.{Passes}
 use Rattle.xod_volume.specs.Files.{Files}
 use Rattle.xod_env.specs.Blocks.{IsNextBlock, trees_with}
 use Rattle.xod_env.specs.Envs.{newest_stored}
+use Rattle.xod_env.proofs.KeyLengths.{keys_fit}
 use Rattle.xod_env.proofs.NextBlock.{new_trees, next_block}
 use Rattle.xod_env.proofs.Resting.{open_over, rest_alone, rest_before, steady_over}
 use Rattle.xod_env.proofs.env.Env.commit_changes.Goals as goal
@@ -51,7 +52,7 @@ write_commit-requires-clause-next g c told1 =
     let told : IsTrue (g.V.Volume.tells was.volume) = rw keeps.tells_same at told1 in
     let at = (was.opened c.requires.whole told).at in
     subst (λ (files : Files). IsNextBlock was.log files built.block built.back built.roots (was.commit + 1)) (sym (keeps.same told))
-    (next_block was.log (g.V.Volume.files was.volume) was.roots (was.commit + 1) (touched c.args.changes.now) built (g.V.Volume.tells was.volume) told c.in_ok-built.ensures.built at.maps)
+    (next_block was.log (g.V.Volume.files was.volume) was.roots (was.commit + 1) (touched c.args.changes.now) built (g.V.Volume.tells was.volume) told c.in_ok-built.ensures.built at.maps (c.requires.rows told))
 
 pub returns-in_err-write_commit-clause-crash : goal.returns-in_err-write_commit-clause-crash
 returns-in_err-write_commit-clause-crash g c told steady =
@@ -114,3 +115,8 @@ returns-clause-trees g c told tree =
     ap (λ trees. trees tree) (c.in_ok-write_commit.ensures.trees told1)
     ∙ ap (λ (files : Files). trees_with was.log files built.block built.roots tree) (keeps.same told)
     ∙ new_trees was.log (g.V.Volume.files was.volume) was.roots (was.commit + 1) (touched c.args.changes.now) built (g.V.Volume.tells was.volume) told c.in_ok-built.ensures.built at.maps tree
+
+pub build_next-requires-clause-keys_fit : goal.build_next-requires-clause-keys_fit
+build_next-requires-clause-keys_fit g c told =
+    let was = c.args.self.now in
+    keys_fit was.log was.roots was.commit (g.V.Volume.files was.volume) (g.V.Volume.may_leave was.volume (g.V.Volume.moment was.volume)) (was.opened c.requires.whole told).at was.placed

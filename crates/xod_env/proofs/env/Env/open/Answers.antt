@@ -1,7 +1,9 @@
-use Rattle.std.proofs.Common.{Bool, IsTrue, sym, subst, ap, ◌∙◌}
+use Rattle.std.proofs.Common.{Bool, IsTrue, Some, sym, subst, ap, ◌∙◌}
 use Rattle.xod_log.specs.declared.log.Log.{Log}
 use Rattle.xod_recover.specs.Images.{Settled}
 use Rattle.xod_recover.specs.Stores.{stored_in}
+use Rattle.xod_env.specs.Envs.{newest_stored}
+use Rattle.xod_env.proofs.Naming.{kinds_stored}
 use Rattle.xod_env.proofs.env.Env.open.Goals as goal
 
 pub returns-clause-found : goal.returns-clause-found
@@ -25,3 +27,9 @@ returns-clause-steady g c told settled =
     let at = (env.opened c.over.ensures.unbroken told2).at in
     c.settled_volumes_are_steady.ensures.steady env.log env.roots env.commit env.volume at sealed
     (subst (λ v. Settled (g.V.Volume.files v) (g.V.Volume.may_leave v (g.V.Volume.moment v))) (sym same) (c.in-Ok.ensures.settled told settled))
+
+pub returns-clause-kinds : goal.returns-clause-kinds
+returns-clause-kinds g c told =
+    let env = c.over.result in
+    kinds_stored (g.V.Volume.files c.args.volume) (newest_stored env.log.file (g.V.Volume.files env.volume) env.roots env.commit) env.kinds
+    (c.in-Ok.ensures.kinds told ∙ ap Some (sym c.over.ensures.kinds)) (returns-clause-found g c told)
