@@ -1,5 +1,5 @@
 //! The count of faults: it rises by one in each call that answers `Failed`, and in no other.
-ghost use Rattle.std.specs.Prelude.{◌≡◌, ◌≤◌, IsErr, IsErrOf, OnOk};
+ghost use Rattle.std.specs.Prelude.{◌≡◌, ◌≤◌, Ok, IfOk, IsErr, IsErrOf, OnOk};
 ghost use Rattle.xod_base.specs.Causes.{Rose};
 ghost use Rattle.xod_volume.specs.declared.volume.VolumeError.{VolumeError};
 
@@ -25,6 +25,7 @@ pub fn counted<T>(faults: &mut u64, answer: Result<T, VolumeError>) -> Result<T,
 
 /// Hands on the answer of a call that has no word for memory, so that want of it is a failure and counts as one.
 pub fn counted_all<T>(faults: &mut u64, answer: Result<T, VolumeError>) -> Result<T, Failed>
+    ensures same { IfOk result (λ value. answer ≡ Ok value) }
     ensures failed { IsErr result → Rose faults.old faults.new }
     ensures unfailed { OnOk result (faults.new ≡ faults.old) }
     ensures never_falls { faults.old ≤ faults.new }

@@ -3,6 +3,8 @@
 //! It is opened at its first use, and stays open. Its bytes are read whole at their first use, and kept as the file has
 //! them from then on: after a call that may have left the two different they are let go of, and read again when they
 //! are next asked for.
+ghost use Rattle.std.specs.Prelude.{◌≡◌, IfOk, OnOk, IsSome, Some};
+
 use crate::outside::{System, or_failed};
 use crate::transfer::{read_all, write_all};
 use std::alloc::Global;
@@ -28,6 +30,8 @@ pub struct FolderFile {
 }
 
 impl FolderFile {
+    ghost use Rattle.xod_volume_fs.specs.Kept.{StaysKept, ReadsKept, SizesKept};
+
     /// The file with this path, which nobody has used yet.
     pub fn unused(path: String) -> Self {
         FolderFile {
@@ -57,7 +61,10 @@ impl FolderFile {
     }
 
     /// Opens the file, where it is not open.
-    fn open<R: System>(&mut self, rt: &R) -> Result<(), VolumeError> {
+    fn open<R: System>(&mut self, rt: &R) -> Result<(), VolumeError>
+        ensures there { OnOk result (IsSome self.new.handle) }
+        ensures same { self.new.body ≡ self.old.body }
+    {
         if self.handle.is_none() {
             let mut options = OpenOptions::new();
             options.read(true).write(true);
@@ -68,7 +75,10 @@ impl FolderFile {
     }
 
     /// Opens the file and reads it, where that is not done.
-    fn read_in<R: System>(&mut self, rt: &R) -> Result<(), VolumeError> {
+    fn read_in<R: System>(&mut self, rt: &R) -> Result<(), VolumeError>
+        ensures there { OnOk result (IsSome self.new.body) }
+        ensures kept { StaysKept self.old.body self.new.body }
+    {
         self.open(rt)?;
         if let (Some(file), None) = (&self.handle, &self.body) {
             let body = read_all(rt.alloc(), file)?;
@@ -78,7 +88,10 @@ impl FolderFile {
     }
 
     /// How many bytes it has.
-    pub fn len<R: System>(&mut self, rt: &R) -> Result<u64, VolumeError> {
+    pub fn len<R: System>(&mut self, rt: &R) -> Result<u64, VolumeError>
+        ensures size { IfOk result (λ n. SizesKept self.new.body n) }
+        ensures kept { StaysKept self.old.body self.new.body }
+    {
         self.read_in(rt)?;
         match &self.body {
             Some(body) => Ok(body.len()),
@@ -87,12 +100,10 @@ impl FolderFile {
     }
 
     /// Fills `out` from a place on, as far as the bytes go, and gives how many those are.
-    pub fn read<R: System>(
-        &mut self,
-        rt: &R,
-        at: u64,
-        out: &mut [u8],
-    ) -> Result<usize, VolumeError> {
+    pub fn read<R: System>(&mut self, rt: &R, at: u64, out: &mut [u8]) -> Result<usize, VolumeError>
+        ensures filled { IfOk result (λ n. ReadsKept self.new.body at out.old out.new n) }
+        ensures kept { StaysKept self.old.body self.new.body }
+    {
         self.read_in(rt)?;
         match &self.body {
             Some(body) => Ok(body.read(at, out)),
@@ -101,7 +112,10 @@ impl FolderFile {
     }
 
     /// The bytes once more. None is copied.
-    pub fn share<R: System>(&mut self, rt: &R) -> Result<Body, VolumeError> {
+    pub fn share<R: System>(&mut self, rt: &R) -> Result<Body, VolumeError>
+        ensures shared { IfOk result (λ body. self.new.body ≡ Some body) }
+        ensures kept { StaysKept self.old.body self.new.body }
+    {
         self.read_in(rt)?;
         match &mut self.body {
             Some(body) => Ok(body.share(rt.alloc())?),

@@ -1,6 +1,8 @@
 //! The folder, once it is found or made: its lock, and its files by number.
 //!
 //! Nobody else makes or removes its files while it is locked, so they are listed once.
+ghost use Rattle.std.specs.Prelude.{IfOk, Some};
+
 use crate::file::FolderFile;
 use crate::names::{lock_path, number_of, path_of};
 use crate::outside::{System, or_failed, or_memory};
@@ -11,7 +13,7 @@ use std::io::ErrorKind;
 use std::path::Path;
 use std::{fs, io};
 use xod_base::Memory;
-use xod_volume::VolumeError;
+use xod_volume::{Body, VolumeError};
 
 /// A folder that is locked.
 #[derive(Drop)]
@@ -24,6 +26,9 @@ pub struct Folder {
 }
 
 impl Folder {
+    ghost use Rattle.std.specs.Prelude.{◌≡◌};
+    ghost use Rattle.xod_volume_fs.specs.Kept.{kept_in, StayKept, ReadsKept, SizesKept};
+
     /// The folder with this name; `None` where there is none.
     pub fn find<R: System>(rt: &R, name: &str) -> Result<Option<Self>, VolumeError> {
         if or_failed(fs::exists(rt, name))? {
@@ -61,6 +66,45 @@ impl Folder {
     /// The file with this number.
     pub fn file(&mut self, file: u64) -> Option<&mut FolderFile> {
         self.files.get_mut(&file)
+    }
+
+    /// How many bytes a file has.
+    pub fn len<R: System>(&mut self, rt: &R, file: u64) -> Result<u64, VolumeError>
+        ensures size { IfOk result (λ n. SizesKept (kept_in self.new file) n) }
+        ensures kept { StayKept (kept_in self.old) (kept_in self.new) }
+    {
+        match self.files.get_mut(&file) {
+            Some(kept) => kept.len(rt),
+            None => Err(VolumeError::Failed),
+        }
+    }
+
+    /// Fills `out` with bytes of a file from a place on, as far as the file goes, and gives how many those are.
+    pub fn read<R: System>(
+        &mut self,
+        rt: &R,
+        file: u64,
+        at: u64,
+        out: &mut [u8],
+    ) -> Result<usize, VolumeError>
+        ensures filled { IfOk result (λ n. ReadsKept (kept_in self.new file) at out.old out.new n) }
+        ensures kept { StayKept (kept_in self.old) (kept_in self.new) }
+    {
+        match self.files.get_mut(&file) {
+            Some(kept) => kept.read(rt, at, out),
+            None => Err(VolumeError::Failed),
+        }
+    }
+
+    /// The bytes of a file once more. None is copied.
+    pub fn share<R: System>(&mut self, rt: &R, file: u64) -> Result<Body, VolumeError>
+        ensures shared { IfOk result (λ body. kept_in self.new file ≡ Some body) }
+        ensures kept { StayKept (kept_in self.old) (kept_in self.new) }
+    {
+        match self.files.get_mut(&file) {
+            Some(kept) => kept.share(rt),
+            None => Err(VolumeError::Failed),
+        }
     }
 
     /// Makes an empty file.

@@ -1,8 +1,9 @@
 //! The names of files in their folder: file n is `n.log`, with n in decimal digits.
 //!
-//! Every other name is somebody else's. What a file is called stands in `specs/Names.antt`.
+//! Every other name is somebody else's. What a file and the lock are called, and their paths, stand in
+//! `specs/Names.antt`.
 ghost use Rattle.std.specs.Prelude.{◌≡◌, ◌≢◌, ◌<◌, ◌^◌, ℕ, IfOk, IfSome, IsNone, string_bytes};
-ghost use Rattle.xod_volume_fs.specs.Names.{file_name};
+ghost use Rattle.xod_volume_fs.specs.Names.{file_name, lock_name, path_in};
 
 use std::alloc::Global;
 use xod_base::Memory;
@@ -35,11 +36,15 @@ pub fn number_of(alloc: Global, name: &str) -> Result<Option<u64>, Memory>
 }
 
 /// The path of a file in a folder.
-pub fn path_of(alloc: Global, folder: &str, file: u64) -> Result<String, Memory> {
+pub fn path_of(alloc: Global, folder: &str, file: u64) -> Result<String, Memory>
+    ensures { IfOk result (λ path. string_bytes path ≡ path_in folder.now (file_name file)) }
+{
     Ok(format!(in alloc; "{folder}/{file}.log")?)
 }
 
 /// The path of the lock in a folder.
-pub fn lock_path(alloc: Global, folder: &str) -> Result<String, Memory> {
+pub fn lock_path(alloc: Global, folder: &str) -> Result<String, Memory>
+    ensures { IfOk result (λ path. string_bytes path ≡ path_in folder.now lock_name) }
+{
     Ok(format!(in alloc; "{folder}/lock")?)
 }

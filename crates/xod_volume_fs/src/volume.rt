@@ -1,6 +1,8 @@
 //! The volume: the files of a store, what is lent of them, and the count of faults.
-ghost use Rattle.std.specs.Prelude.{⊤, ◌≡◌, ◌∷◌, [], false, IfOk, OnOk, OnErr};
+ghost use Rattle.std.specs.Prelude.{⊤, ◌≡◌, ◌≤◌, ◌∷◌, [], false, codes, IfOk, OnOk, OnErr, IsErr, IsErrOf};
+ghost use Rattle.xod_base.specs.Causes.{Rose};
 ghost use Rattle.xod_volume.specs.Files.{no_files};
+ghost use Rattle.xod_volume.specs.declared.volume.VolumeError.{VolumeError};
 
 use crate::counted::{counted, counted_all};
 use crate::lease::FolderLease;
@@ -8,7 +10,7 @@ use crate::lent::{any_names, copy_of, put_first, take_off};
 use crate::outside::System;
 use crate::store::Store;
 use xod_base::{Failed, Listed, Memory};
-use xod_volume::{Volume, VolumeError};
+use xod_volume::{Lease, Volume, VolumeError};
 
 /// Files by number in one folder: file n is `n.log`. Other names in the folder are left alone.
 ///
@@ -27,8 +29,11 @@ pub struct FolderVolume<R> {
 const FOLDER_NAME: &str = "xod-store";
 
 impl<R: System> FolderVolume<R> {
+    ghost use Rattle.xod_volume_fs.specs.Kept.{folder_of, kept, StayKept, LendsKept};
+
     /// The volume in the folder `xod-store` of the working folder. Nothing is read or written yet.
     pub fn new(rt: R) -> Result<Self, Memory>
+        ensures folder { IfOk result (λ volume. folder_of volume ≡ codes "xod-store") }
         ensures leases { IfOk result (λ volume. ⟦<FolderVolume<R> as Volume>⟧.leases volume ≡ []) }
         ensures faults { IfOk result (λ volume. ⟦<FolderVolume<R> as Volume>⟧.faults volume ≡ 0) }
     {
@@ -37,6 +42,7 @@ impl<R: System> FolderVolume<R> {
 
     /// The volume in a folder with this name. Nothing is read or written yet.
     pub fn named(rt: R, folder: &str) -> Result<Self, Memory>
+        ensures folder { IfOk result (λ volume. folder_of volume ≡ folder.now) }
         ensures leases { IfOk result (λ volume. ⟦<FolderVolume<R> as Volume>⟧.leases volume ≡ []) }
         ensures faults { IfOk result (λ volume. ⟦<FolderVolume<R> as Volume>⟧.faults volume ≡ 0) }
     {
@@ -63,6 +69,8 @@ impl<R: System> FolderVolume<R> {
     /// Makes the lease, and puts its list before the others.
     fn lease_of(&mut self, list: &[u64]) -> Result<FolderLease, VolumeError>
         ensures named { IfOk result (λ lease. lease.list ≡ list.now) }
+        ensures holds { IfOk result (λ lease. LendsKept list.now (kept self.new) lease.table) }
+        ensures kept { StayKept (kept self.old) (kept self.new) }
         ensures lent { OnOk result (self.new.lent.items ≡ list.now ∷ self.old.lent.items) }
         ensures refused { OnErr result (self.new.lent.items ≡ self.old.lent.items) }
         ensures faults_same { self.new.faults ≡ self.old.faults }
@@ -80,6 +88,8 @@ impl<R: System> FolderVolume<R> {
 }
 
 impl<R: System> Volume for FolderVolume<R> {
+    ghost use Rattle.xod_volume_fs.specs.Kept.{kept, StayKept, ReadsKept, SizesKept, LendsKept};
+
     type Held = FolderLease;
 
     ghost tells = { λ _. false };
@@ -103,12 +113,34 @@ impl<R: System> Volume for FolderVolume<R> {
         counted(&mut self.faults, answer)
     }
 
-    fn len(&mut self, file: u64) -> Result<u64, Failed> {
+    fn len(&mut self, file: u64) -> Result<u64, Failed>
+        ensures size { IfOk result (λ n. SizesKept (kept self.new file) n) }
+        ensures kept { StayKept (kept self.old) (kept self.new) }
+        ensures failed { IsErr result → Rose (⟦<FolderVolume<R> as Volume>⟧.faults self.old)
+            (⟦<FolderVolume<R> as Volume>⟧.faults self.new) }
+        ensures unfailed { OnOk result (⟦<FolderVolume<R> as Volume>⟧.faults self.new
+            ≡ ⟦<FolderVolume<R> as Volume>⟧.faults self.old) }
+        ensures leases_same { ⟦<FolderVolume<R> as Volume>⟧.leases self.new
+            ≡ ⟦<FolderVolume<R> as Volume>⟧.leases self.old }
+        ensures never_falls { ⟦<FolderVolume<R> as Volume>⟧.faults self.old
+            ≤ ⟦<FolderVolume<R> as Volume>⟧.faults self.new }
+    {
         let answer = self.store.len(file);
         counted_all(&mut self.faults, answer)
     }
 
-    fn read(&mut self, file: u64, at: u64, out: &mut [u8]) -> Result<usize, Failed> {
+    fn read(&mut self, file: u64, at: u64, out: &mut [u8]) -> Result<usize, Failed>
+        ensures filled { IfOk result (λ n. ReadsKept (kept self.new file) at out.old out.new n) }
+        ensures kept { StayKept (kept self.old) (kept self.new) }
+        ensures failed { IsErr result → Rose (⟦<FolderVolume<R> as Volume>⟧.faults self.old)
+            (⟦<FolderVolume<R> as Volume>⟧.faults self.new) }
+        ensures unfailed { OnOk result (⟦<FolderVolume<R> as Volume>⟧.faults self.new
+            ≡ ⟦<FolderVolume<R> as Volume>⟧.faults self.old) }
+        ensures leases_same { ⟦<FolderVolume<R> as Volume>⟧.leases self.new
+            ≡ ⟦<FolderVolume<R> as Volume>⟧.leases self.old }
+        ensures never_falls { ⟦<FolderVolume<R> as Volume>⟧.faults self.old
+            ≤ ⟦<FolderVolume<R> as Volume>⟧.faults self.new }
+    {
         let answer = self.store.read(file, at, out);
         counted_all(&mut self.faults, answer)
     }
@@ -143,7 +175,24 @@ impl<R: System> Volume for FolderVolume<R> {
         counted_all(&mut self.faults, answer)
     }
 
-    fn lend(&mut self, list: &[u64]) -> Result<FolderLease, VolumeError> {
+    fn lend(&mut self, list: &[u64]) -> Result<FolderLease, VolumeError>
+        ensures named { IfOk result (λ lease. ⟦<FolderLease as Lease>⟧.list lease ≡ list.now) }
+        ensures holds { IfOk result (λ lease. LendsKept list.now (kept self.new)
+            (⟦<FolderLease as Lease>⟧.lent lease)) }
+        ensures kept { StayKept (kept self.old) (kept self.new) }
+        ensures lent { OnOk result (⟦<FolderVolume<R> as Volume>⟧.leases self.new
+            ≡ list.now ∷ ⟦<FolderVolume<R> as Volume>⟧.leases self.old) }
+        ensures refused { OnErr result (⟦<FolderVolume<R> as Volume>⟧.leases self.new
+            ≡ ⟦<FolderVolume<R> as Volume>⟧.leases self.old) }
+        ensures failed { IsErrOf result VolumeError.Failed → Rose (⟦<FolderVolume<R> as Volume>⟧.faults self.old)
+            (⟦<FolderVolume<R> as Volume>⟧.faults self.new) }
+        ensures unfailed { OnOk result (⟦<FolderVolume<R> as Volume>⟧.faults self.new
+            ≡ ⟦<FolderVolume<R> as Volume>⟧.faults self.old) }
+        ensures memory { IsErrOf result VolumeError.Memory → ⟦<FolderVolume<R> as Volume>⟧.faults self.new
+            ≡ ⟦<FolderVolume<R> as Volume>⟧.faults self.old }
+        ensures never_falls { ⟦<FolderVolume<R> as Volume>⟧.faults self.old
+            ≤ ⟦<FolderVolume<R> as Volume>⟧.faults self.new }
+    {
         let answer = self.lease_of(list);
         counted(&mut self.faults, answer)
     }
