@@ -1,10 +1,11 @@
 //! Links that are read.
-ghost use Rattle.std.specs.Prelude.{is_some};
+ghost use Rattle.std.specs.Prelude.{is_some, slice_get};
 ghost use Rattle.std.specs.FinMap.{get};
 ghost use Rattle.xod_base.specs.Views.{Answers, CountsFaults, KeepsView};
 ghost use Rattle.xod_tables.specs.Keys.{link_key as link_bytes};
+ghost use Rattle.xod_range.specs.Ranges.{in_range};
 ghost use Rattle.xod_range.specs.Reads.{Reads};
-ghost use Rattle.xod_keys.specs.Readings.{ends_at, links_at};
+ghost use Rattle.xod_keys.specs.Readings.{ends_at, first_id, last_id, links_at};
 
 use std::alloc::Global;
 use xod_base::{EntityId, IdList, Listed, ReadError, TreeView};
@@ -93,6 +94,30 @@ pub fn linked<T: TreeView>(
 {
     let key = link_key(source, link, target);
     match view.get(alloc, LINKS, &key)? {
+        None => Ok(false),
+        Some(_) => Ok(true),
+    }
+}
+
+/// Whether an entity has a link with a number. It looks for the first one alone.
+pub fn has_link<T: TreeView>(
+    view: &mut T,
+    alloc: Global,
+    source: EntityId,
+    link: u32,
+) -> Result<bool, ReadError>
+    ensures answers { Answers (T.tells view.old) (T.trees view.old LINKS)
+        (λ map. is_some (slice_get (in_range (link_bytes source link first_id) (link_bytes source link last_id) map) 0)) result }
+    ensures counts { CountsFaults (T.faults view.old) (T.faults view.new) result }
+    ensures keeps { KeepsView T.tells T.trees T.commit T.refs T.faults view.old view.new }
+{
+    let mut range = Range::new(
+        alloc,
+        LINKS,
+        &link_key(source, link, FIRST_ID),
+        &link_key(source, link, LAST_ID),
+    )?;
+    match range.step(view, alloc)? {
         None => Ok(false),
         Some(_) => Ok(true),
     }

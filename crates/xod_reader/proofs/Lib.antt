@@ -1,3 +1,5 @@
+pub mod CallerLemmas
+mod Fronts
 mod LinkParts
 mod Listing
 mod NameLemmas

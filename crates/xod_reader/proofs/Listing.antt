@@ -1,23 +1,20 @@
 -- Names that are listed, and names of which rows have nothing.
-use Rattle.std.proofs.Common.{◌≡◌, ℕ, Bool, true, false, cond, IsTrue, List, [], ◌∷◌, map, length, Option, Some, None, Result, refl, sym, ap, subst, ◌∙◌, true≢false}
-use Rattle.std.specs.Prelude.{nat_lt}
+use Rattle.std.proofs.Common.{◌≡◌, ℕ, Bool, true, false, cond, IsTrue, List, [], ◌∷◌, map, length, Option, Some, None, refl, sym, ap, ◌∙◌, true≢false}
+use Rattle.std.specs.Prelude.{nat_lt, is_some, ◌==◌}
 use Rattle.std.specs.Cmp.{both_ways, second_so, tied_itself}
 use Rattle.std.specs.Ordering.{is_gt}
 use Rattle.std.specs.Cmp.Lexicographic.{bytes_decides}
-use Rattle.std.specs.FinMap.{entries, get}
+use Rattle.std.specs.FinMap.{entries, get, keys}
 use Rattle.std.specs.List.{AllByRecursion, filter, list_any}
 use Rattle.xod_base.specs.declared.limits.TheConstants.{MOST_NAMES}
-use Rattle.xod_base.specs.declared.causes.ReadError.{ReadError}
 use Rattle.xod_base.specs.declared.value.EntityId.{EntityId}
 use Rattle.xod_base.specs.declared.value.Value.{Value}
-use Rattle.xod_base.specs.Evaluation.{has_value, ids_of, ids_with, ids_with_number, is_link_of, passes, targets_of}
+use Rattle.xod_base.specs.Evaluation.{has_value, ids_of, ids_with, ids_with_number, is_link_of, is_linked, passes, targets_of}
 use Rattle.xod_base.specs.Rows.{RowsValue, LinkKey, is_sound, number_of, same_id}
 use Rattle.xod_base.specs.Values.{has_key, has_key_within, is_within, keys_of, same_bytes}
-use Rattle.xod_base.specs.Views.{Tree}
-use Rattle.xod_keys.specs.Readings.{ids_between}
-use Rattle.xod_range.specs.Reads.{Reads}
 use Rattle.xod_carry.proofs.CallerLemmas.{bytes_same, bytes_total, each_get, each_too}
 use Rattle.xod_tables.proofs.CallerLemmas.{CellFits, LinkFits, cells_fit, facts, links_fit, cell_total, cell_same, link_total, link_same, not_none}
+use Rattle.xod_readings.specs.Lists.{sources_of}
 use Rattle.xod_readings.proofs.Ranging.{pinned, sides_within, within_sides}
 use Rattle.xod_reader.specs.declared.slot.Slot.{Slot}
 use Rattle.xod_reader.specs.declared.slot.Slot.TheVariants.{Listed, Free, Full}
@@ -75,7 +72,7 @@ unlike : (b : Bool) → (b ≡ true → ⊥) → b ≡ false
 unlike true h = absurd (h refl)
 unlike false h = refl
 
-none_kept : {A : Type 0} (p : A → Bool) → ((x : A) → p x ≡ false) → (xs : List A) → filter p xs ≡ []
+pub none_kept : {A : Type 0} (p : A → Bool) → ((x : A) → p x ≡ false) → (xs : List A) → filter p xs ≡ []
 none_kept p fails [] = refl
 none_kept p fails (x ∷ xs) = ap (λ b. cond b (x ∷ filter p xs) (filter p xs)) (fails x) ∙ none_kept p fails xs
 
@@ -97,6 +94,9 @@ module _ (rows : RowsValue) (sound : IsTrue (is_sound rows)) (name : List ℕ) w
       let fits : LinkFits rows (source, (name, target)) = each_get link_total link_same (λ e. LinkFits rows e.0) rows.joined (source, (name, target)) joined (links_fit rows (facts rows sound)) is in
       not_none fits.name.number (sym fits.name.is ∙ none))
 
+  pub none_linked : number_of rows.links name ≡ None → (kind : List ℕ) (target : EntityId) → filter (is_linked rows name target) (ids_of rows kind) ≡ []
+  none_linked none kind target = none_kept (is_linked rows name target) (λ id. ap is_some (no_link none id target)) (ids_of rows kind)
+
   pub no_targets : number_of rows.links name ≡ None → (source : EntityId) → targets_of rows name source ≡ []
   no_targets none source = ap (map (λ link. link.1.1)) (none_pass (is_link_of source name) (entries rows.joined)
       (each_too (λ e fits. unlike (is_link_of source name e.0) (λ is. other e.0 fits is)) (entries rows.joined) (links_fit rows (facts rows sound))))
@@ -114,14 +114,31 @@ one_key key other = both_ways (is_within key key other) (same_bytes key other)
     ∙ sides_within key key key (ap is_gt (tied_itself bytes_total key)) (ap is_gt (tied_itself bytes_total key)))
 
 -- the entities with a key are those with one from it to itself
-pub key_alone : (rows : RowsValue) (kind name key : List ℕ) (number : ℕ) → Some number ≡ number_of rows.types kind
-    → filter (has_value rows name (has_key_within key key)) (ids_with_number rows (Some number)) ≡ ids_with rows kind name (has_key key)
-key_alone rows kind name key number is =
-    (λ i. filter (has_value rows name (λ value. list_any (λ other. one_key key other i) (keys_of value))) (ids_with_number rows (is i)))
+pub key_alone : (rows : RowsValue) (kind name key : List ℕ) → ids_with rows kind name (has_key_within key key) ≡ ids_with rows kind name (has_key key)
+key_alone rows kind name key = λ i. ids_with rows kind name (λ value. list_any (λ other. one_key key other i) (keys_of value))
 
--- what was read from a key to itself
-pub between_key : {tells : Bool} {tree : Option Tree} (kind prop : ℕ) {result : Result (List EntityId) ReadError} (key low high : List ℕ) → low ≡ key
-    → high ≡ key
-    → Reads tells tree (ids_between kind prop low high) result → Reads tells tree (ids_between kind prop key key) result
-between_key {tells} {tree} kind prop {result} key low high low_is high_is reads =
-    subst (λ last. Reads tells tree (ids_between kind prop key last) result) high_is (subst (λ first. Reads tells tree (ids_between kind prop first high) result) low_is reads)
+-- ---- two tests, either of them first
+
+pushed : {A : Type 0} (p : A → Bool) (x : A) (b : Bool) (xs : List A)
+    → filter p (cond b (x ∷ xs) xs) ≡ cond b (cond (p x) (x ∷ filter p xs) (filter p xs)) (filter p xs)
+pushed p x true xs = refl
+pushed p x false xs = refl
+
+exchanged : {A : Type 0} (b c : Bool) (u v : A) → cond b (cond c u v) v ≡ cond c (cond b u v) v
+exchanged true true u v = refl
+exchanged true false u v = refl
+exchanged false true u v = refl
+exchanged false false u v = refl
+
+filter_filter : {A : Type 0} (p q : A → Bool) (xs : List A) → filter p (filter q xs) ≡ filter q (filter p xs)
+filter_filter p q [] = refl
+filter_filter p q (x ∷ xs) =
+    pushed p x (q x) (filter q xs)
+    ∙ (λ i. cond (q x) (cond (p x) (x ∷ filter_filter p q xs i) (filter_filter p q xs i)) (filter_filter p q xs i))
+    ∙ exchanged (q x) (p x) (x ∷ filter q (filter p xs)) (filter q (filter p xs))
+    ∙ sym (pushed q x (p x) (filter p xs))
+
+-- the sources that are of a type are the entities of the type that are linked
+pub sources_of_kind : (rows : RowsValue) (name : List ℕ) (target : EntityId) (number : ℕ)
+    → filter (λ id. id.kind == number) (sources_of rows name target) ≡ filter (is_linked rows name target) (ids_with_number rows (Some number))
+sources_of_kind rows name target number = filter_filter (λ id. id.kind == number) (is_linked rows name target) (keys rows.ids)

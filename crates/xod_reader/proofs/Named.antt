@@ -14,10 +14,7 @@ use Rattle.xod_tables.specs.Tables.{AreTables}
 use Rattle.xod_reader.specs.Naming.{NamesEach}
 use Rattle.xod_reader.specs.Told.{ReadsRows}
 use Rattle.xod_reader.proofs.NameLemmas.{name_at_place, none_outside}
-use Rattle.xod_reader.proofs.Told.{moved, value_rows}
-
-same_cause : {B : Type 0} (a b : ReadError) → ◌≡◌ {A = Result B ReadError} (Err a) (Err b) → a ≡ b
-same_cause a b e = cc e
+use Rattle.xod_reader.proofs.Told.{moved, same_cause, value_rows}
 
 -- the view is as it was, and what was named so far has its names
 pub record Named {View A B : Type 0} (tells : View → Bool) (trees : View → Trees) (commit : View → ℕ) (refs : View → List GName) (faults : View → ℕ)

@@ -52,6 +52,14 @@ module _ {A : Type 0} {tells : Bool} {trees : Trees} {tree : ℕ} {result : Resu
     damaged = λ told rows are place is. not_none (table rows) (sym (stands rows are) ∙ finds.damaged told place is);
   }
 
+-- what the rows have, said another way
+pub reads_as : {A : Type 0} {tells : Bool} {trees : Trees} {of_rows wanted : RowsValue → A} {result : Result A ReadError}
+    → (IsTrue tells → (rows : RowsValue) → AreTables trees rows → of_rows rows ≡ wanted rows) → ReadsRows tells trees of_rows result → ReadsRows tells trees wanted result
+reads_as {result = result} same reads = record {
+  value = λ told rows are. each_ok result (λ found is. is ∙ same told rows are) (reads.value told rows are);
+  damaged = reads.damaged;
+}
+
 -- an answer of which it is known what the rows have
 pub ok_rows : {A : Type 0} {tells : Bool} {trees : Trees} {of_rows : RowsValue → A} (found : A)
     → (IsTrue tells → (rows : RowsValue) → AreTables trees rows → found ≡ of_rows rows) → ReadsRows tells trees of_rows (Ok found)
@@ -62,7 +70,7 @@ pub value_rows : {A : Type 0} {tells : Bool} {trees : Trees} {of_rows : RowsValu
     → ReadsRows tells trees of_rows result → IsTrue tells → (rows : RowsValue) → AreTables trees rows → found ≡ of_rows rows
 value_rows {of_rows = of_rows} found is reads told rows are = subst (λ r. IfOk r (λ x. x ≡ of_rows rows)) is (reads.value told rows are)
 
-same_cause : {B : Type 0} (a b : ReadError) → ◌≡◌ {A = Result B ReadError} (Err a) (Err b) → a ≡ b
+pub same_cause : {B : Type 0} (a b : ReadError) → ◌≡◌ {A = Result B ReadError} (Err a) (Err b) → a ≡ b
 same_cause a b e = cc e
 
 -- a call that fails as one did that it made

@@ -12,8 +12,8 @@ mod props;
 mod slot;
 mod sorting;
 
-pub use entities::{has, ids_of, next_local};
-pub use links::{linked, links_in, links_out, targets_of};
+pub use entities::{has, id_is_short, ids_of, next_local};
+pub use links::{ids_linked, linked, links_in, links_out, targets_of};
 pub use parts::{NamedLink, NamedLinks, NamedValue, NamedValues};
-pub use props::{ids_found, value_of, values_of};
-pub use slot::{Slot, name_of, slot_of};
+pub use props::{ids_found, ids_having, ids_with_front, ids_within, value_of, values_of};
+pub use slot::{Slot, name_of, number_of, slot_of};

@@ -1,6 +1,7 @@
 //! Names and their numbers.
 ghost use Rattle.std.specs.Prelude.{◌≡◌};
 ghost use Rattle.std.specs.List.{slice_get};
+ghost use Rattle.xod_base.specs.Rows.{number_of as number_in};
 ghost use Rattle.xod_base.specs.Views.{CountsFaults, KeepsView};
 ghost use Rattle.xod_tables.specs.LookUps.{names_of};
 ghost use Rattle.xod_reader.specs.Slots.{end_slot as slot_at_end, slot_of as slot_in};
@@ -30,6 +31,21 @@ fn end_slot(count: u32) -> Slot
     } else {
         Slot::Full
     }
+}
+
+/// The number of a name in a list of names, and `None` exactly where it is not listed.
+pub fn number_of<T: TreeView>(
+    view: &mut T,
+    alloc: Global,
+    list: NameKind,
+    name: &Text,
+) -> Result<Option<u32>, ReadError>
+    ensures reads { ReadsRows (T.tells view.old) (T.trees view.old) (λ rows. number_in (names_of rows list) name.now) result }
+    ensures counts { CountsFaults (T.faults view.old) (T.faults view.new) result }
+    ensures keeps { KeepsView T.tells T.trees T.commit T.refs T.faults view.old view.new }
+{
+    names_of_rows_are_read();
+    xod_names::number_of(view, alloc, list, name)
 }
 
 /// Where a name stands in a list of names, or would stand.

@@ -1,4 +1,4 @@
-use Rattle.std.proofs.Common.{◌≡◌, ℕ, List, Ok, ap, ◌∙◌, sym}
+use Rattle.std.proofs.Common.{ℕ, Ok, ap, ◌∙◌, sym}
 use Rattle.std.specs.Option.{option_map}
 use Rattle.xod_base.specs.declared.value.EntityId.{EntityId}
 use Rattle.xod_range.specs.Ranges.{in_range}

@@ -1,65 +1,23 @@
-use Rattle.std.proofs.Common.{Ok, Err, Some, None, ap, sym, ◌∙◌}
-use Rattle.std.proofs.lemmas.Result.{err_from_is_err_and}
-use Rattle.std.specs.List.{filter}
-use Rattle.xod_base.specs.declared.answer.NameKind.TheVariants.{Kinds, Props}
-use Rattle.xod_base.specs.Evaluation.{has_value, ids_with, ids_with_number}
-use Rattle.xod_base.specs.Rows.{number_of}
-use Rattle.xod_base.specs.Values.{has_key, key_of}
-use Rattle.xod_keys.specs.Readings.{ids_between}
-use Rattle.xod_range.specs.Reads.{Reads}
-use Rattle.xod_tables.proofs.CallerLemmas.{facts}
-use Rattle.xod_tables.specs.LookUps.{names_of}
-use Rattle.xod_tables.specs.Tables.{index_tree}
-use Rattle.xod_tables.specs.declared.trees.TheConstants.{INDEX}
-use Rattle.xod_reader.specs.Told.{ReadsRows}
-use Rattle.xod_reader.proofs.Listing.{absent, between_key, key_alone, none_with}
-use Rattle.xod_reader.proofs.Named.{keeps_on}
-use Rattle.xod_reader.proofs.Told.{fails_rows, moved, number_rows, number_small, ok_rows, reads_rows, value_rows}
+use Rattle.std.proofs.Common.{sym, subst, ◌∙◌}
+use Rattle.xod_base.specs.Evaluation.{ids_with}
+use Rattle.xod_base.specs.Values.{has_key_within, key_of}
+use Rattle.xod_readings.specs.Laws.{IsBound, IsHighBound}
+use Rattle.xod_reader.proofs.Listing.{key_alone}
+use Rattle.xod_reader.proofs.Told.{reads_as}
 use Rattle.xod_reader.proofs.props.ids_found.Goals as goal
 
-pub returns-in_err-kind-clause-reads : goal.returns-in_err-kind-clause-reads
-returns-in_err-kind-clause-reads g c =
-    let error = err_from_is_err_and c.from_residual.result c.from_residual.ensures.1 in
-    fails_rows c.from_residual.result c.in_err-kind.field-0.0 (error.1 ∙ ap Err error.2) c.in_err-kind.was
-    (number_rows c.names_of_rows_are_read.ensures Kinds c.args.kind.now c.number_of.ensures.reads)
+pub ids_between-requires-clause-low : goal.ids_between-requires-clause-low
+ids_between-requires-clause-low g c =
+    let bound = c.keys_are_bounds.ensures c.args.value.now c.value_fits.ensures in
+    subst IsBound (sym (c.as_slice.ensures ∙ c.in_ok-key.ensures)) bound.is_bound
 
-pub returns-in_default-clause-reads : goal.returns-in_default-clause-reads
-returns-in_default-clause-reads g c =
-    let kinds = number_rows c.names_of_rows_are_read.ensures Kinds c.args.kind.now c.number_of.ensures.reads in
-    let none = absent c.in_ok-kind.field-0 c.in_default.not-Some in
-    ok_rows c.new.result (λ told rows are. c.new.ensures
-    ∙ ap (λ found. filter (has_value rows c.args.prop.now (has_key (key_of c.args.value.now))) (ids_with_number rows found)) (value_rows None (c.in_ok-kind.was ∙ ap Ok none) kinds told rows are))
-
-pub returns-in_err-prop-clause-reads : goal.returns-in_err-prop-clause-reads
-returns-in_err-prop-clause-reads g c =
-    let error = err_from_is_err_and c.from_residual-in_err-prop.result c.from_residual-in_err-prop.ensures.1 in
-    fails_rows c.from_residual-in_err-prop.result c.in_err-prop.field-0.0 (error.1 ∙ ap Err error.2) c.in_err-prop.was
-    (moved c.number_of.ensures.keeps (λ b ts. ReadsRows b ts (λ rows. number_of (names_of rows Props) c.args.prop.now) c.number_of-2.result)
-    (number_rows c.names_of_rows_are_read.ensures Props c.args.prop.now c.number_of-2.ensures.reads))
-
-pub returns-in_default-2-clause-reads : goal.returns-in_default-2-clause-reads
-returns-in_default-2-clause-reads g c =
-    let props = moved c.number_of.ensures.keeps (λ b ts. ReadsRows b ts (λ rows. number_of (names_of rows Props) c.args.prop.now) c.number_of-2.result)
-    (number_rows c.names_of_rows_are_read.ensures Props c.args.prop.now c.number_of-2.ensures.reads) in
-    let none = absent c.in_ok-prop.field-0 c.in_default-2.not-Some in
-    ok_rows c.new-in_default-2.result (λ told rows are. c.new-in_default-2.ensures
-    ∙ sym (none_with rows are.sound c.args.prop.now (sym (value_rows None (c.in_ok-prop.was ∙ ap Ok none) props told rows are)) c.args.kind.now (has_key (key_of c.args.value.now))))
+pub ids_between-requires-clause-high : goal.ids_between-requires-clause-high
+ids_between-requires-clause-high g c =
+    subst IsHighBound (sym (c.as_slice-2.ensures ∙ c.in_ok-key.ensures)) (c.keys_are_bounds.ensures c.args.value.now c.value_fits.ensures)
 
 pub returns-clause-reads : goal.returns-clause-reads
 returns-clause-reads g c =
-    let kinds = number_rows c.names_of_rows_are_read.ensures Kinds c.args.kind.now c.number_of.ensures.reads in
-    let props = moved c.number_of.ensures.keeps (λ b ts. ReadsRows b ts (λ rows. number_of (names_of rows Props) c.args.prop.now) c.number_of-2.result)
-    (number_rows c.names_of_rows_are_read.ensures Props c.args.prop.now c.number_of-2.ensures.reads) in
-    let kind = c.in-Some.kind in
-    let prop = c.in-Some-2.prop in
-    let key = key_of c.args.value.now in
-    let bound = c.keys_are_bounds.ensures c.args.value.now c.value_fits.ensures in
-    reads_rows index_tree (λ rows. ids_with rows c.args.kind.now c.args.prop.now (has_key key)) (λ rows are. are.indexed)
-    (λ told rows are.
-    let kind_is = value_rows (Some kind) (c.in_ok-kind.was ∙ ap Ok c.in-Some.is) kinds told rows are in
-    let prop_is = value_rows (Some prop) (c.in_ok-prop.was ∙ ap Ok c.in-Some-2.is) props told rows are in
-    (c.props_of_rows_are_read.ensures rows are.sound).between kind c.args.prop.now prop key key
-    (number_small rows.types ((facts rows are.sound).types) c.args.kind.now kind kind_is) (sym prop_is) bound.is_bound bound
-    ∙ ap Some (key_alone rows c.args.kind.now c.args.prop.now key kind kind_is))
-    (moved (keeps_on c.number_of.ensures.keeps c.number_of-2.ensures.keeps) (λ b ts. Reads b (ts INDEX) (ids_between kind prop key key) c.ids_between.result)
-    (between_key kind prop key c.as_slice.result.now c.as_slice-2.result.now (c.as_slice.ensures ∙ c.in_ok-key.ensures) (c.as_slice-2.ensures ∙ c.in_ok-key.ensures) c.ids_between.ensures.reads))
+    let low = c.as_slice.ensures ∙ c.in_ok-key.ensures in
+    let high = c.as_slice-2.ensures ∙ c.in_ok-key.ensures in
+    reads_as (λ told rows are. (λ i. ids_with rows c.args.kind.now c.args.prop.now (has_key_within (low i) (high i)))
+    ∙ key_alone rows c.args.kind.now c.args.prop.now (key_of c.args.value.now)) c.ids_between.ensures.reads
