@@ -1,8 +1,10 @@
 //! The adapter of a snapshot.
-ghost use Rattle.std.specs.Prelude.{◌≡◌, IfOk};
+ghost use Rattle.std.specs.Prelude.{◌≡◌, IfOk, OnOk, if◌then◌else◌, is_ok};
+ghost use Rattle.xod_cache.specs.Kinds.{kind_after, kinds_after};
 
 use std::alloc::Global;
 use xod_base::{Memory, NameList, Text};
+use xod_journal::RowChange;
 
 /// The names of a snapshot's types, by their numbers. It has no answers of queries yet.
 #[derive(Debug, Drop)]
@@ -11,7 +13,7 @@ pub struct Adapter {
 }
 
 /// The same names once more. A copy of a name shares its bytes.
-fn copy_names(alloc: Global, names: &[Text]) -> Result<NameList, Memory>
+pub fn copy_names(alloc: Global, names: &[Text]) -> Result<NameList, Memory>
     ensures { IfOk result (λ copied. copied ≡ names.now) }
 {
     let mut copied = NameList::new(alloc);
@@ -19,6 +21,23 @@ fn copy_names(alloc: Global, names: &[Text]) -> Result<NameList, Memory>
         copied.push(name.try_clone(alloc)?)?;
     }
     Ok(copied)
+}
+
+/// Puts the name of a type that a change makes at the end. A refusal leaves the names as they were.
+fn follow_one(alloc: Global, names: &mut NameList, change: &RowChange) -> Result<(), Memory>
+    ensures { names.new ≡ (if is_ok result then kind_after names.old change.now else names.old) }
+{
+    match change {
+        RowChange::AddEntity { id, kind } if id.kind as usize == names.len() => {
+            names.push(kind.try_clone(alloc)?)?;
+            Ok(())
+        }
+        RowChange::AddEntity { .. }
+        | RowChange::RemoveEntity { .. }
+        | RowChange::Prop { .. }
+        | RowChange::LinkAdd { .. }
+        | RowChange::LinkDel { .. } => Ok(()),
+    }
 }
 
 impl Adapter {
@@ -42,5 +61,16 @@ impl Adapter {
     {
         let names = copy_names(alloc, self.names.as_slice())?;
         Ok(Adapter { names })
+    }
+
+    /// Follows changes that were made: the name of each type that is new comes to the others. A refusal leaves some of
+    /// them there.
+    pub fn follow(&mut self, alloc: Global, changes: &[RowChange]) -> Result<(), Memory>
+        ensures { OnOk result (self.new.names ≡ kinds_after self.old.names changes.now) }
+    {
+        for change in changes {
+            follow_one(alloc, &mut self.names, change)?;
+        }
+        Ok(())
     }
 }

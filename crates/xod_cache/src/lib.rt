@@ -2,5 +2,7 @@
 #![tactic(auto)]
 
 mod adapter;
+mod laws;
 
-pub use adapter::Adapter;
+pub use adapter::{Adapter, copy_names};
+pub use laws::kinds_follow;
