@@ -54,7 +54,7 @@ nothing_over below trees kinds own touches unchanged untouched begun =
     subst (λ (list : List RowChange). IsOver trees list touches) (sym unchanged)
     (record {
       base = base;
-      fits = record { fit = refl; now = refl };
+      fits = record { began = refl; fit = refl; now = refl };
       seen = subst (λ (t : Trees). AreTables t (base_rows trees)) (sym shown) base;
     })
 
@@ -96,7 +96,7 @@ module _ (laws : TxnLaws) (trees : Trees) (own : List RowChange) (touches : ℕ 
       laws.show touches trees plan.writes ∙ ap (after_writes (overlaid_trees touches trees)) writes in
       record {
         base = over.base;
-        fits = record { fit = all_fit-append (base_rows trees) own plan.changes over.fits.fit fit; now = refl };
+        fits = record { began = refl; fit = all_fit-append (base_rows trees) own plan.changes over.fits.fit fit; now = refl };
         seen = subst (λ (t : Trees). AreTables t (all_applied (base_rows trees) (own ++ plan.changes))) (sym shown)
             (subst (AreTables (after_all plan.changes)) (sym now) (laws.follow (overlaid_trees touches trees) seen_rows plan.changes over.seen are fit));
       }
@@ -125,7 +125,7 @@ pub txn-grows : (mode : Mode) {base now : ℕ} {trees seen : Trees} (own more ch
     → txn_over mode now seen more ≡ txn_acted (txn_over mode base trees own) (Ok changes)
 txn-grows mode {trees = trees} own more changes commit same grown =
     let rows = (λ i. all_applied (base_rows (same i)) (grown i)) ∙ all_applied-append (base_rows trees) own changes in
-    λ i. record { mode = mode; base = commit i; own = grown i; rows = rows i }
+    λ i. record { mode = mode; base = commit i; begun = base_rows (same i); own = grown i; rows = rows i }
 
 -- ---- either outcome of keeping
 

@@ -24,7 +24,7 @@ MayBegin tells trees kinds = IsTrue tells → option_map (λ rows. rows.types) (
 
 -- a transaction of a mode, over the trees of a commit, with its own changes
 abbrev pub txn_over : Mode → ℕ → Trees → List RowChange → OpenTxn
-txn_over mode commit trees own = record { mode = mode; base = commit; own = own; rows = all_applied (base_rows trees) own }
+txn_over mode commit trees own = record { mode = mode; base = commit; begun = base_rows trees; own = own; rows = all_applied (base_rows trees) own }
 
 -- What a transaction's type keeps, over any view: its touched keys may be committed, and there are some exactly where it
 -- has changes.
@@ -35,5 +35,5 @@ pub record IsKept (own : List RowChange) (touches : ℕ → TouchMap) : Type 0 w
 -- And over a view that tells: what it sees are the tables of its rows, and its changes fit the rows of its base.
 pub record IsOver (trees : Trees) (own : List RowChange) (touches : ℕ → TouchMap) : Type 0 where
   pub base : AreTables trees (base_rows trees)
-  pub fits : FitsRows (base_rows trees) (record { mode = Mode.Ordinary; base = 0; own = own; rows = all_applied (base_rows trees) own })
+  pub fits : FitsRows (base_rows trees) (record { mode = Mode.Ordinary; base = 0; begun = base_rows trees; own = own; rows = all_applied (base_rows trees) own })
   pub seen : AreTables (overlaid_trees touches trees) (all_applied (base_rows trees) own)

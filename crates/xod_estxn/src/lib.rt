@@ -10,6 +10,7 @@ mod keeping;
 mod kept;
 mod known;
 mod laws;
+mod local;
 mod over;
 mod refusal;
 mod show;

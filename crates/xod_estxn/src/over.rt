@@ -7,7 +7,6 @@ ghost use Rattle.xod_base.specs.Evaluation.{answer_of};
 ghost use Rattle.xod_base.specs.Rows.{RowsValue};
 ghost use Rattle.xod_base.specs.Views.{CountsFaults as CountsReads, KeepsView};
 ghost use Rattle.xod_acts.specs.Plans.{Plans};
-ghost use Rattle.xod_iter.specs.Served.{is_served};
 ghost use Rattle.xod_journal.specs.Changes.{expansion_of, has_names};
 ghost use Rattle.xod_journal.specs.Locals.{CountsFaults, IsExpected};
 ghost use Rattle.xod_journal.specs.Shows.{shown_of};
@@ -103,14 +102,13 @@ pub(crate) fn show_over<T: TreeView, H: Holding>(
     show_seen(&mut kept, own, alloc, id)
 }
 
-/// The ids that a query names, rising.
+/// The ids that a query names.
 fn evaluate_seen<T: TreeView>(
     view: &mut T,
     own: &Overlay,
     alloc: Global,
     query: &Query,
 ) -> Result<IdList, ReadError>
-    requires { IsTrue (is_served query.now) }
     ensures reads { ReadsRows (T.tells view.old) (overlaid_trees (touched own.now) (T.trees view.old)) (λ rows. answer_of query.now rows) result }
     ensures counts { CountsReads (T.faults view.old) (T.faults view.new) result }
     ensures keeps { KeepsLent T.tells T.commit T.refs T.faults view.old view.new }
@@ -122,15 +120,14 @@ fn evaluate_seen<T: TreeView>(
     evaluate(alloc, query, &mut seen)
 }
 
-/// The ids that a query names, rising. The view has its trees afterwards too.
+/// The ids that a query names. The view has its trees afterwards too.
 pub(crate) fn evaluate_over<T: TreeView, H: Holding>(
     view: &mut T,
     own: &Overlay,
     alloc: Global,
     query: &Query,
 ) -> Result<IdList, ReadError>
-    requires served { IsTrue (is_served query.now) }
-    requires trees_are { T.trees view.old ≡ H.trees }
+    requires { T.trees view.old ≡ H.trees }
     ensures reads { ReadsRows (T.tells view.old) (overlaid_trees (touched own.now) (T.trees view.old)) (λ rows. answer_of query.now rows) result }
     ensures counts { CountsReads (T.faults view.old) (T.faults view.new) result }
     ensures keeps { KeepsView T.tells T.trees T.commit T.refs T.faults view.old view.new }

@@ -3,7 +3,6 @@ ghost use Rattle.std.specs.Prelude.{◌≡◌, ◌≢◌, ℕ, [], IsTrue, OnErr
 ghost use Rattle.std.specs.FinMap.{empty};
 ghost use Rattle.std.proofs.Props.{props};
 ghost use Rattle.xod_base.specs.Views.{KeepsView};
-ghost use Rattle.xod_iter.specs.Served.{is_served};
 ghost use Rattle.xod_journal.specs.Changes.{all_applied, has_names};
 ghost use Rattle.xod_journal.specs.Locals.{Acts, CountsFaults, Finds, IsExpected};
 ghost use Rattle.xod_journal.specs.Shows.{shown_of};
@@ -114,7 +113,6 @@ impl<T: TreeView> EntityTxn<T> {
 
     /// The ids that a query names, with the transaction's own changes. Only the outside and memory refuse it.
     pub fn query(&mut self, alloc: Global, query: &Query) -> Result<Answer, StmtError>
-        requires { IsTrue (is_served query.now) }
         ensures finds { Finds (T.tells self.old.view) query.now
             (txn_over self.old.mode (T.commit self.old.view) (T.trees self.old.view) self.old.changes) result }
         ensures counts { CountsFaults (T.faults self.old.view) (T.faults self.new.view) result }
