@@ -6,6 +6,7 @@
 mod items;
 mod line;
 mod pool;
+mod pooled;
 mod read;
 mod reading;
 mod script;

@@ -2,13 +2,15 @@
 //!
 //! `reading.rt` hands in what a line says, and gets the same with shared texts. What is met again after other texts took
 //! its slot is kept a second time; no clause speaks of what is shared.
-ghost use Rattle.std.specs.Prelude.{◌≡◌, IfSome};
+ghost use Rattle.std.specs.Prelude.{◌≡◌, IfOk, IfSome};
 
 use crate::line::Line;
+use crate::pooled::pooled_draft;
 use crate::script::Form;
+use sqlite_items::Boxed;
 use std::alloc::Global;
-use xod_base::{Memory, Text, Value};
-use xod_words::Ent;
+use xod_base::{Memory, Query, Text, Value};
+use xod_words::{Draft, Ent};
 
 /// How many texts are remembered at most.
 const SLOTS: u32 = 256;
@@ -68,6 +70,15 @@ impl Pool {
         }
     }
 
+    /// A text once more, which shares its bytes with the one that was met before.
+    pub fn shared(&mut self, alloc: Global, text: &Text) -> Result<Text, Memory>
+        ensures { IfOk result (λ shared. shared ≡ text.now) }
+    {
+        let mut shared = text.try_clone(alloc)?;
+        self.share(alloc, &mut shared);
+        Ok(shared)
+    }
+
     /// Shares the variable of an entity word.
     fn share_ent(&mut self, alloc: Global, ent: &mut Ent)
         ensures { ent.new ≡ ent.old }
@@ -86,6 +97,15 @@ impl Pool {
         }
     }
 
+    /// Shares two names.
+    fn share_names(&mut self, alloc: Global, kind: &mut Text, name: &mut Text)
+        ensures kind { kind.new ≡ kind.old }
+        ensures name { name.new ≡ name.old }
+    {
+        self.share(alloc, kind);
+        self.share(alloc, name);
+    }
+
     /// Shares the names of an entity's property or link.
     fn share_pair(&mut self, alloc: Global, ent: &mut Ent, name: &mut Text)
         ensures ent { ent.new ≡ ent.old }
@@ -95,15 +115,53 @@ impl Pool {
         self.share(alloc, name);
     }
 
-    /// Shares the names and texts of a form. Those of queries stay as they are.
+    /// Shares the names and texts of a query that has no parts.
+    pub fn share_leaf(&mut self, alloc: Global, query: &mut Query)
+        ensures { query.new ≡ query.old }
+    {
+        match query {
+            Query::All { kind } => self.share(alloc, kind),
+            Query::Find { kind, prop, value } => {
+                self.share_names(alloc, kind, prop);
+                self.share_value(alloc, value);
+            }
+            Query::Range {
+                kind,
+                prop,
+                low,
+                high,
+            } => {
+                self.share_names(alloc, kind, prop);
+                self.share_value(alloc, low);
+                self.share_value(alloc, high);
+            }
+            Query::Prefix { kind, prop, text } => {
+                self.share_names(alloc, kind, prop);
+                self.share(alloc, text);
+            }
+            Query::With { kind, prop } => self.share_names(alloc, kind, prop),
+            Query::WithLink { kind, link } => self.share_names(alloc, kind, link),
+            Query::Linked { kind, link, .. } => self.share_names(alloc, kind, link),
+            Query::LinksOf { link, .. } => self.share(alloc, link),
+            _ => {}
+        }
+    }
+
+    /// Shares the names and texts of a query and its parts. Where memory is refused, they stay as they are.
+    fn share_draft(&mut self, alloc: Global, draft: &mut Boxed<Draft>)
+        ensures { draft.new ≡ draft.old }
+    {
+        if let Ok(pooled) = pooled_draft(alloc, self, draft.get()) {
+            *draft = pooled;
+        }
+    }
+
+    /// Shares the names and texts of a form.
     fn share_form(&mut self, alloc: Global, form: &mut Form)
         ensures { form.new ≡ form.old }
     {
         match form {
-            Form::New { kind, var } => {
-                self.share(alloc, kind);
-                self.share(alloc, var);
-            }
+            Form::New { kind, var } => self.share_names(alloc, kind, var),
             Form::Set { ent, prop, value } => {
                 self.share_pair(alloc, ent, prop);
                 self.share_value(alloc, value);
@@ -136,6 +194,8 @@ impl Pool {
             Form::UnlinkAll { source, link } => self.share_pair(alloc, source, link),
             Form::Delete { ent } => self.share_ent(alloc, ent),
             Form::Show { ent } => self.share_ent(alloc, ent),
+            Form::Query { draft } => self.share_draft(alloc, draft),
+            Form::Count { draft } => self.share_draft(alloc, draft),
             _ => {}
         }
     }
