@@ -1,7 +1,6 @@
 //! The tests, a module for each subject.
 mod crashes;
 mod damage;
-mod files;
 mod folder;
 mod pinned;
 mod refusals;

@@ -1,14 +1,12 @@
 //! What a crash at each moment of a store's life leaves, also where a call of the device fails.
-ghost use Rattle.std.specs.Prelude.{◌≡◌};
-ghost use Rattle.xod_volume.specs.Files.{no_files};
-
 use super::seen::{CHOICES, Seen, seen_after};
-use super::store::Store;
+use super::store::commit_next;
 use std::alloc::Global;
 use std::test::Fail;
-use xod_env::{EnvError, FlushError, Flushed};
+use xod_env::{Env, EnvError, FlushError, Flushed};
 use xod_recover::OpenError;
-use xod_volume::{MemoryVolume, Volume};
+use xod_trial::TARGET;
+use xod_volume::MemoryVolume;
 
 /// One step of a store's life.
 #[derive(Clone, Copy)]
@@ -102,12 +100,10 @@ impl Answers {
 }
 
 /// A life on a volume without files, to the close.
-fn live(alloc: Global, volume: MemoryVolume, life: &[Step]) -> (MemoryVolume, Answers)
-    requires { ⟦<MemoryVolume as Volume>⟧.files volume ≡ no_files }
-{
+fn live(alloc: Global, volume: MemoryVolume, life: &[Step]) -> (MemoryVolume, Answers) {
     let mut answers = Answers::none();
-    let mut store = match Store::open(alloc, volume) {
-        Ok(store) => store,
+    let mut env = match Env::open(alloc, volume, TARGET) {
+        Ok(env) => env,
         Err((volume, cause)) => {
             answers.add_refused(cause);
             return (volume, answers);
@@ -115,11 +111,11 @@ fn live(alloc: Global, volume: MemoryVolume, life: &[Step]) -> (MemoryVolume, An
     };
     for step in life {
         match step {
-            Step::Commit => answers.add_flush(store.commit(alloc)),
-            Step::Sync => answers.add_sync(store.sync()),
+            Step::Commit => answers.add_flush(commit_next(&mut env, alloc)),
+            Step::Sync => answers.add_sync(env.sync()),
         }
     }
-    let (volume, closed) = store.close();
+    let (volume, closed) = env.close();
     answers.add_sync(closed);
     (volume, answers)
 }

@@ -1,10 +1,10 @@
 //! Files that are not as a store left them: a torn tail, bad bytes, files cut short, and files that are missing.
-use super::files::{content, volume_with};
 use super::seen::{Seen, look};
-use super::worked::{ONE_ENTITY, SEALED, reopened};
+use super::worked::reopened;
 use std::alloc::Global;
 use std::test::Fail;
 use xod_base::Place;
+use xod_trial::{ONE_ENTITY, SEALED, content, volume_with};
 
 /// The ends where a second mark has the numbers of a block as long, and its gate is closed.
 const ONE_OPEN: [u8; 39] = [
@@ -25,9 +25,11 @@ fn damaged(file: u64, at: u64) -> Seen {
 /// What is to be seen where byte `at` of the body is one more, or has all its bits turned over.
 fn body_wanted(at: usize, is_one_more: bool) -> Seen {
     match (at, is_one_more) {
-        // Keys and values, and lengths behind which a leaf still stands whole.
-        (3..=7 | 10 | 14 | 15 | 18..=21 | 25..=28 | 31..=38 | 42..=49, _) => whole(1),
-        (9 | 17 | 30 | 41 | 51, true) => whole(1),
+        // A higher next number.
+        (35..=38, _) => whole(1),
+        // Other keys and values, and lengths behind which a leaf still stands whole: tables of no rows.
+        (3..=7 | 10 | 14 | 15 | 18..=21 | 25..=28 | 31..=34 | 42..=49, _) => damaged(0, 52),
+        (9 | 17 | 30 | 41 | 51, true) => damaged(0, 52),
         // The other bytes of the four leaves.
         (0..=9, _) => damaged(0, 0),
         (11..=17, _) => damaged(0, 11),
@@ -38,13 +40,12 @@ fn body_wanted(at: usize, is_one_more: bool) -> Seen {
         (54..=60, false) => whole((255 << (8 * (61 - at))) | 1),
         (61, true) => whole(2),
         (61, false) => whole(254),
-        // Tree 4 becomes tree 5; the four trees begin one byte later, where no leaf stands.
-        (102, true) => whole(1),
+        // The four trees begin one byte later, where no leaf stands.
         (75, true) => damaged(0, 1),
         (88, true) => damaged(0, 12),
         (101, true) => damaged(0, 23),
         (114, true) => damaged(0, 40),
-        // The rest of the root.
+        // The rest of the root, the number of tree 4 too: as tree 5 it is no table.
         _ => damaged(0, 52),
     }
 }
@@ -104,7 +105,7 @@ fn a_last_block_that_decodes_is_not_the_newest(rt: HostRuntime) -> Result<(), Fa
 }
 
 #[test]
-fn each_bad_byte_opens_to_readable_trees_or_is_told(rt: HostRuntime) -> Result<(), Fail> {
+fn each_bad_byte_opens_to_tables_or_is_told(rt: HostRuntime) -> Result<(), Fail> {
     let alloc = rt.alloc();
     for is_one_more in [true, false] {
         for at in 0..115usize {

@@ -1,11 +1,12 @@
 //! A store over real files.
 use super::seen::{Seen, look};
-use super::store::{Store, numbered};
+use super::store::commit_next;
 use std::alloc::Global;
 use std::fs;
 use std::rt::Files;
 use std::test::Fail;
-use xod_env::{FlushError, Flushed};
+use xod_env::{Env, FlushError, Flushed};
+use xod_trial::TARGET;
 use xod_volume_fs::FolderVolume;
 
 const FOLDER: &str = "xod-env-test";
@@ -31,11 +32,11 @@ fn clear(rt: &(impl Files + Alloc)) -> Result<(), Fail> {
 fn commit_once(rt: HostRuntime) -> Result<Result<Flushed, FlushError>, Fail> {
     let alloc = rt.alloc();
     let volume = FolderVolume::named(rt, FOLDER)?;
-    let Ok(mut store) = Store::open(alloc, volume) else {
+    let Ok(mut env) = Env::open(alloc, volume, TARGET) else {
         return Err(Fail::from("not opened"));
     };
-    let flushed = store.commit(alloc);
-    let (_, closed) = store.close();
+    let flushed = commit_next(&mut env, alloc);
+    let (_, closed) = env.close();
     closed?;
     Ok(flushed)
 }

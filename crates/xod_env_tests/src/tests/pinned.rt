@@ -1,9 +1,10 @@
 //! A snapshot that is held while the store goes on.
 use super::seen::{Seen, look, seen_in};
-use super::store::Store;
+use super::store::commit_next;
 use std::alloc::Global;
 use std::test::Fail;
-use xod_env::Snapshot;
+use xod_env::{Env, Snapshot};
+use xod_trial::TARGET;
 use xod_volume::{MemoryLease, MemoryVolume, Volume};
 
 /// What a snapshot reads that the volume's store left out, and whether file 0 is held before and after it is taken back.
@@ -31,15 +32,15 @@ fn read_back(
 /// What a snapshot of commit 1 reads that was held over two more commits, two rolls and the close; with the volume.
 fn held_from_the_first(alloc: Global) -> Result<(MemoryVolume, (Seen, bool, bool)), Fail> {
     let volume = MemoryVolume::new(alloc)?;
-    let Ok(mut store) = Store::open(alloc, volume) else {
+    let Ok(mut env) = Env::open(alloc, volume, TARGET) else {
         return Err(Fail::from("not opened"));
     };
-    let first = store.commit(alloc);
-    let pinned = store.pin(alloc);
-    let second = store.commit(alloc);
-    let third = store.commit(alloc);
-    let current = store.env.current();
-    let (mut volume, closed) = store.close();
+    let first = commit_next(&mut env, alloc);
+    let pinned = env.pin(alloc);
+    let second = commit_next(&mut env, alloc);
+    let third = commit_next(&mut env, alloc);
+    let current = env.current();
+    let (mut volume, closed) = env.close();
     let read = match pinned {
         Ok(snapshot) => read_back(alloc, &mut volume, snapshot),
         Err(_) => (Seen::Failed, false, false),

@@ -1,77 +1,131 @@
 //! What a store refuses, and what it is afterwards.
-use super::files::content;
-use super::store::{Store, no_changes, numbered};
+use super::store::commit_next;
 use std::alloc::Global;
 use std::test::Fail;
-use xod_env::{EnvError, FlushError, Flushed};
-use xod_volume::{MemoryVolume, Volume};
+use xod_base::Mode;
+use xod_env::{Env, EnvError, FlushError, Flushed, Snapshot};
+use xod_estxn::EntityTxn;
+use xod_trial::{Given, TARGET, commit, content, make_acts, snapshot_of};
+use xod_volume::{MemoryLease, MemoryVolume, Volume};
 
-/// What a store answers to four flushes after commit 1: changes and none, each made over commit 0 and over commit 1.
-#[derive(Clone, Copy, Debug, PartialEq, Eq)]
-struct Verdicts {
-    changes: (Result<Flushed, FlushError>, Result<Flushed, FlushError>),
-    nothing: (Result<Flushed, FlushError>, Result<Flushed, FlushError>),
+/// A transaction over a volume in memory.
+type Txn = EntityTxn<Snapshot<MemoryLease>>;
+
+/// A transaction on the newest commit, with these acts.
+fn begun(env: &mut Env<MemoryVolume>, alloc: Global, acts: &[Given]) -> Result<Txn, FlushError> {
+    let (snapshot, adapter) = snapshot_of(env, alloc)?;
+    let mut txn = EntityTxn::new(alloc, snapshot, adapter, Mode::Ordinary);
+    match make_acts(&mut txn, alloc, acts) {
+        Ok(()) => Ok(txn),
+        Err(cause) => {
+            end(env, txn);
+            Err(cause)
+        }
+    }
 }
 
-fn judged(alloc: Global) -> Result<Verdicts, Fail> {
-    let changes = numbered(alloc, 2)?;
-    let none = no_changes(alloc);
+/// Gives a transaction up.
+fn end(env: &mut Env<MemoryVolume>, txn: Txn) {
+    let (snapshot, _) = txn.into_parts();
+    env.unpin(snapshot);
+}
+
+/// Flushes a transaction that began on commit 0, where that is not the newest one any more.
+fn flush_late(
+    env: &mut Env<MemoryVolume>,
+    alloc: Global,
+    txn: &Txn,
+) -> Option<Result<Flushed, FlushError>> {
+    if env.version() == 0 {
+        return None;
+    }
+    Some(env.flush(alloc, 0, txn.overlay()))
+}
+
+/// What a late flush of a transaction with these acts is answered, behind the first commit; and then one of a
+/// transaction with the same acts that sees that commit.
+fn judged(alloc: Global, acts: &[Given]) -> Result<[Result<Flushed, FlushError>; 2], Fail> {
     let volume = MemoryVolume::new(alloc)?;
-    let Ok(mut store) = Store::open(alloc, volume) else {
+    let Ok(mut env) = Env::open(alloc, volume, TARGET) else {
         return Err(Fail::from("not opened"));
     };
-    let first = store.commit(alloc);
-    let late = store.flush(alloc, 0, &changes);
-    let late_nothing = store.flush(alloc, 0, &none);
-    let nothing = store.flush(alloc, 1, &none);
-    let second = store.flush(alloc, 1, &changes);
-    let (_, closed) = store.close();
+    let mut late = None;
+    if let Ok(txn) = begun(&mut env, alloc, acts) {
+        let _ = commit_next(&mut env, alloc);
+        late = flush_late(&mut env, alloc, &txn);
+        end(&mut env, txn);
+    }
+    let second = commit(&mut env, alloc, acts);
+    let (_, closed) = env.close();
     closed?;
-    first?;
-    Ok(Verdicts {
-        changes: (late, second),
-        nothing: (late_nothing, nothing),
-    })
+    let late = late.ok_or("no late flush")?;
+    Ok([late, second])
 }
 
-/// What a store answers once a write failed in its first commit.
+#[test]
+fn a_flush_conflicts_exactly_where_another_commit_came(rt: HostRuntime) -> Result<(), Fail> {
+    let alloc = rt.alloc();
+    let conflict = Err(FlushError::Conflict { base: 0, now: 1 });
+    assert_eq!(rt;
+        judged(alloc, &[Given::New("T")])?,
+        [conflict, Ok(Flushed::Commit { version: 2 })]
+    );
+    assert_eq!(rt;
+        judged(alloc, &[])?,
+        [Ok(Flushed::Nothing), Ok(Flushed::Nothing)]
+    );
+    Ok(())
+}
+
+/// What a store answers whose second commit failed in a write.
 #[derive(Clone, Copy, Debug, PartialEq, Eq)]
 struct Broken {
-    flushed: Result<Flushed, FlushError>,
-    is_pinned: Option<EnvError>,
+    second: Result<Flushed, FlushError>,
+    late: Option<Result<Flushed, FlushError>>,
+    pinned: Option<EnvError>,
     synced: Result<(), EnvError>,
     closed: Result<(), EnvError>,
 }
 
-/// The first commit fails at this call, behind which a snapshot is held; `None` where it does not.
+/// What is answered where the device fails in a call, with a snapshot held from before the second commit and a
+/// transaction from before the first one; with the volume. `None` where there is no second commit to fail.
 fn broken_at(alloc: Global, call: u64) -> Result<Option<(MemoryVolume, Broken)>, Fail> {
     let volume = MemoryVolume::failing(alloc, &[call])?;
-    let Ok(mut store) = Store::open(alloc, volume) else {
+    let Ok(mut env) = Env::open(alloc, volume, TARGET) else {
         return Ok(None);
     };
-    let held = store.pin(alloc);
-    let first = store.commit(alloc);
-    let flushed = store.commit(alloc);
-    let is_pinned = match store.pin(alloc) {
+    let txn = begun(&mut env, alloc, &[Given::New("T")]);
+    let first = commit(&mut env, alloc, &[Given::New("T")]);
+    let held = env.pin(alloc);
+    let second = commit(&mut env, alloc, &[Given::New("T")]);
+    let late = match &txn {
+        Ok(txn) => flush_late(&mut env, alloc, txn),
+        Err(_) => None,
+    };
+    let pinned = match env.pin(alloc) {
         Ok(snapshot) => {
-            store.unpin(snapshot);
+            env.unpin(snapshot);
             None
         }
         Err(error) => Some(error),
     };
-    let synced = store.sync();
-    if let Ok(snapshot) = held {
-        store.unpin(snapshot);
+    let synced = env.sync();
+    if let Ok(txn) = txn {
+        end(&mut env, txn);
     }
-    let (volume, closed) = store.close();
-    if first != Err(FlushError::Device) || flushed != Err(FlushError::Broken) {
+    if let Ok(snapshot) = held {
+        env.unpin(snapshot);
+    }
+    let (volume, closed) = env.close();
+    if first.is_err() || second != Err(FlushError::Device) || synced.is_ok() {
         return Ok(None);
     }
     Ok(Some((
         volume,
         Broken {
-            flushed,
-            is_pinned,
+            second,
+            late,
+            pinned,
             synced,
             closed,
         },
@@ -79,30 +133,17 @@ fn broken_at(alloc: Global, call: u64) -> Result<Option<(MemoryVolume, Broken)>,
 }
 
 #[test]
-fn a_flush_conflicts_exactly_where_another_commit_came(rt: HostRuntime) -> Result<(), Fail> {
-    let judged = judged(rt.alloc())?;
-    let wanted = Verdicts {
-        changes: (
-            Err(FlushError::Conflict { base: 0, now: 1 }),
-            Ok(Flushed::Commit { version: 2 }),
-        ),
-        nothing: (Ok(Flushed::Nothing), Ok(Flushed::Nothing)),
-    };
-    assert_eq!(rt; judged, wanted);
-    Ok(())
-}
-
-#[test]
 fn a_broken_store_gives_its_volume_back_unsealed(rt: HostRuntime) -> Result<(), Fail> {
     let alloc = rt.alloc();
     let wanted = Broken {
-        flushed: Err(FlushError::Broken),
-        is_pinned: Some(EnvError::Broken),
+        second: Err(FlushError::Device),
+        late: Some(Err(FlushError::Broken)),
+        pinned: Some(EnvError::Broken),
         synced: Err(EnvError::Broken),
         closed: Err(EnvError::Broken),
     };
     let mut broken = 0u64;
-    for call in 0..40u64 {
+    for call in 0..100u64 {
         if let Some((mut volume, answers)) = broken_at(alloc, call)? {
             broken = broken.saturating_add(1);
             assert_eq!(rt; answers, wanted, "call {call} fails");
@@ -114,7 +155,7 @@ fn a_broken_store_gives_its_volume_back_unsealed(rt: HostRuntime) -> Result<(), 
             assert_eq!(rt; volume.faults(), 1);
         }
     }
-    // The append is the one write of a first commit.
+    // The append is the one write of the second commit.
     assert_eq!(rt; broken, 1);
     Ok(())
 }

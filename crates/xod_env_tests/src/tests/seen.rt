@@ -1,10 +1,11 @@
 //! What an opening finds on a volume.
-use super::store::{TARGET, number_told};
+use super::store::number_told;
 use std::alloc::Global;
 use std::test::Fail;
 use xod_base::{Place, ReadError, TreeView};
 use xod_env::Env;
 use xod_recover::OpenError;
+use xod_trial::TARGET;
 use xod_volume::{Crash, MemoryVolume, Volume};
 
 /// What a crash may leave, by each choice.
@@ -13,9 +14,9 @@ pub(crate) const CHOICES: [Crash; 3] = [Crash::Kept, Crash::Lost, Crash::Scrambl
 /// What an opening finds, and a pinned snapshot then reads.
 #[derive(Clone, Copy, Debug, PartialEq, Eq)]
 pub(crate) enum Seen {
-    /// The numbered commit whose trees are there.
+    /// The numbered commit whose rows are there.
     Commit(u8),
-    /// A commit whose trees are those of no numbered one, and how many pairs all its trees have.
+    /// A commit whose rows are those of no numbered one, and how many pairs all its trees have.
     Other { commit: u64, pairs: u64 },
     /// The first bad place.
     Damaged(Place),

@@ -1,158 +1,82 @@
-//! A store whose keys fit, so that commit after commit may be flushed; and the commits that tell their numbers.
-ghost use Rattle.std.specs.Prelude.{◌≡◌, false, IfOk, IsTrue};
-ghost use Rattle.std.proofs.Props.{props};
-ghost use Rattle.xod_commit.specs.Blocks.{Fit};
-ghost use Rattle.xod_overlay.specs.Marks.{touched};
-ghost use Rattle.xod_volume.specs.Files.{no_files};
-ghost use Rattle.xod_env.specs.Envs.{env_trees};
-ghost use Rattle.xod_env_tests.specs.Keys.{TreesFit};
-
+//! The commits that tell their numbers.
 use std::alloc::Global;
-use xod_base::{Memory, ReadError, TreeView};
-use xod_commit::{keys_fit_after_a_commit, touches_stay_fit};
-use xod_env::{Env, EnvError, FlushError, Flushed, Snapshot};
-use xod_overlay::Overlay;
-use xod_recover::OpenError;
+use xod_base::{EntityId, ReadError, TreeView, Value};
+use xod_env::{Env, FlushError, Flushed};
+use xod_reader::{NamedValue, has, values_of};
+use xod_trial::{Datum, Given, commit};
 use xod_volume::Volume;
 
-/// The length at which log files are rolled.
-pub(crate) const TARGET: u64 = 4096;
+/// How many bytes each text of an entity has; with two of them, and the index of both, a log file has reached the target.
+const LENGTH: usize = 1024;
 
-/// How many bytes the value of a commit's own key has: with one such commit a log file has reached the target.
-const LENGTH: usize = 4096;
-
-/// The greatest number of a commit whose own key is looked for.
+/// The greatest number of a commit.
 const MOST: u8 = 4;
 
-/// An environment of which each tree's keys fit, so a commit may follow.
-pub(crate) struct Store<V: Volume> {
-    pub env: Env<V>,
-    ghost fits: { IsTrue (V.tells env.volume) → env.is_broken ≡ false
-        → TreesFit (env_trees env.log.file (V.files env.volume) env.roots) } by { Prim.hlevel props },
+/// The acts of a numbered commit: one more entity, with two long texts of its own.
+fn acts_of(number: u8) -> [Given; 3] {
+    let id = (0, u32::from(number.saturating_sub(1)));
+    let text = Datum::Letters(b'a'.saturating_add(number), LENGTH);
+    [
+        Given::New("T"),
+        Given::Set(id, "first", text),
+        Given::Set(id, "second", text),
+    ]
 }
 
-/// No touched key; a commit of it is nothing.
-pub(crate) fn no_changes(alloc: Global) -> Overlay
-    ensures { Fit (touched result) }
-{
-    touches_stay_fit();
-    Overlay::new(alloc)
-}
-
-/// Puts a value at a key of a tree. What fits in no store is answered like want of memory.
-pub(crate) fn put(
-    changes: &mut Overlay,
+/// Makes the next numbered commit, up to the last one.
+pub(crate) fn commit_next<V: Volume>(
+    env: &mut Env<V>,
     alloc: Global,
-    tree: u8,
-    key: &[u8],
-    value: &[u8],
-) -> Result<(), Memory>
-    requires { Fit (touched changes.old) }
-    ensures { Fit (touched changes.new) }
-{
-    if tree == 0 || tree > 8 || key.len() > 65535 || value.len() > 65535 {
-        return Err(Memory);
+) -> Result<Flushed, FlushError> {
+    let base = env.version();
+    let number = if base < u64::from(MOST) {
+        base as u8 + 1
+    } else {
+        MOST
+    };
+    commit(env, alloc, &acts_of(number))
+}
+
+/// Whether a property has the text of a numbered commit.
+fn is_text_of(property: &NamedValue, number: u8) -> bool {
+    match &property.value {
+        Value::Text(text) => { text.as_bytes() == [b'a'.saturating_add(number); LENGTH].as_slice() }
+        _ => false,
     }
-    touches_stay_fit();
-    changes.put(alloc, tree, key, value)
 }
 
-/// The changes of a numbered commit: key `a` of tree 1 gets its number, and its own key of tree 2 a value of its own.
-pub(crate) fn numbered(alloc: Global, number: u8) -> Result<Overlay, Memory>
-    ensures { IfOk result (λ changes. Fit (touched changes)) }
-{
-    let mut changes = no_changes(alloc);
-    put(&mut changes, alloc, 1, b"a", &[0, 0, 0, 0, 0, 0, 0, number])?;
-    put(&mut changes, alloc, 2, &[number], &[number; LENGTH])?;
-    Ok(changes)
-}
-
-/// Whether the key of a commit is there with its value, or absent where it is to be.
-fn has_key<T: TreeView>(
+/// Whether the entity of a numbered commit is there; `None` where it is there without its texts.
+fn is_made<T: TreeView>(
     alloc: Global,
     view: &mut T,
     number: u8,
-    is_due: bool,
-) -> Result<bool, ReadError> {
-    let value = view.get(alloc, 2, &[number])?;
-    Ok(match value {
-        None => !is_due,
-        Some(value) => is_due && value.as_slice() == [number; LENGTH].as_slice(),
+) -> Result<Option<bool>, ReadError> {
+    let id = EntityId {
+        kind: 0,
+        local: u32::from(number.saturating_sub(1)),
+    };
+    if !has(view, alloc, id)? {
+        return Ok(Some(false));
+    }
+    let values = values_of(view, alloc, id)?;
+    Ok(match values.as_slice() {
+        [first, second] if is_text_of(first, number) && is_text_of(second, number) => Some(true),
+        _ => None,
     })
 }
 
-/// The number of the numbered commit whose trees a view has; `None` where they are those of none.
+/// The number of the numbered commit whose rows a view has; `None` where they are those of none.
 pub(crate) fn number_told<T: TreeView>(
     alloc: Global,
     view: &mut T,
 ) -> Result<Option<u8>, ReadError> {
-    let value = view.get(alloc, 1, b"a")?;
-    let told = match &value {
-        None => 0,
-        Some(value) => match value.as_slice() {
-            [0, 0, 0, 0, 0, 0, 0, number] => *number,
-            _ => return Ok(None),
-        },
-    };
+    let mut told = 0u8;
     for number in 1..=MOST {
-        if !has_key(alloc, view, number, number <= told)? {
-            return Ok(None);
+        match is_made(alloc, view, number)? {
+            Some(true) if told == number - 1 => told = number,
+            Some(false) => {}
+            _ => return Ok(None),
         }
     }
     Ok(Some(told))
-}
-
-impl<V: Volume> Store<V> {
-    /// A store on a volume without files, or on one that does not tell its files.
-    pub(crate) fn open(alloc: Global, volume: V) -> Result<Self, (V, OpenError)>
-        requires empty { IsTrue (V.tells volume) → V.files volume ≡ no_files }
-    {
-        let env = Env::open(alloc, volume, TARGET)?;
-        Ok(Store { env })
-    }
-
-    /// Flushes changes that were made over a commit, or over the newest one where that number is not there yet.
-    pub(crate) fn flush(
-        &mut self,
-        alloc: Global,
-        base: u64,
-        changes: &Overlay,
-    ) -> Result<Flushed, FlushError>
-        requires fit { Fit (touched changes.now) }
-    {
-        keys_fit_after_a_commit();
-        let base = base.min(self.env.version());
-        self.env.flush(alloc, base, changes)
-    }
-
-    /// The next numbered commit.
-    pub(crate) fn commit(&mut self, alloc: Global) -> Result<Flushed, FlushError> {
-        let base = self.env.version();
-        let number = if base < 255 { base as u8 + 1 } else { 255 };
-        match numbered(alloc, number) {
-            Ok(changes) => self.flush(alloc, base, &changes),
-            Err(_) => Err(FlushError::Memory),
-        }
-    }
-
-    /// A snapshot of the newest commit.
-    pub(crate) fn pin(&mut self, alloc: Global) -> Result<Snapshot<V::Held>, EnvError> {
-        self.env.pin(alloc)
-    }
-
-    /// Takes a snapshot back.
-    pub(crate) fn unpin(&mut self, snapshot: Snapshot<V::Held>) {
-        self.env.unpin(snapshot);
-    }
-
-    /// Makes the newest commit outlive a crash.
-    pub(crate) fn sync(&mut self) -> Result<(), EnvError> {
-        self.env.sync()
-    }
-
-    /// The same, and the volume is handed back.
-    pub(crate) fn close(self) -> (V, Result<(), EnvError>) {
-        let Store { env } = self;
-        env.close()
-    }
 }

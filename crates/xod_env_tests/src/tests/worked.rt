@@ -1,35 +1,10 @@
 //! The worked store of one entity, byte for byte.
-ghost use Rattle.std.specs.Prelude.{IfOk};
-ghost use Rattle.xod_commit.specs.Blocks.{Fit};
-ghost use Rattle.xod_overlay.specs.Marks.{touched};
-
-use super::files::content;
-use super::store::{Store, TARGET, no_changes, put};
 use std::alloc::Global;
 use std::test::Fail;
-use xod_base::{Memory, ReadError, TreeView};
+use xod_base::{ReadError, TreeView};
 use xod_env::{Env, Flushed, Snapshot};
-use xod_overlay::Overlay;
+use xod_trial::{Given, ONE_ENTITY, SEALED, TARGET, commit, content};
 use xod_volume::{MemoryLease, MemoryVolume, Volume};
-
-/// The block of a store with one entity without properties, which is its whole body: 115 bytes in five records.
-pub(crate) const ONE_ENTITY: [u8; 115] = [
-    1, 0, 5, 1, 0, 0, 0, 0, 0, 1, 84, // tree 1: type 0 is T
-    1, 0, 2, 1, 84, 0, 4, 0, 0, 0, 0, // tree 2: T is 0
-    1, 0, 4, 0, 0, 0, 0, 0, 8, 0, 0, 0, 0, 0, 0, 0, 1, // tree 3: the next number is 1
-    1, 0, 8, 0, 0, 0, 0, 0, 0, 0, 0, 0, 0, // tree 4: entity 0-0
-    3, 1, 0, 0, 0, 0, 0, 0, 0, 1, 4, // a root of commit 1 with four trees
-    1, 0, 0, 0, 0, 0, 0, 0, 0, 0, 0, 0, 0, //
-    2, 0, 0, 0, 0, 0, 0, 0, 0, 0, 0, 0, 11, //
-    3, 0, 0, 0, 0, 0, 0, 0, 0, 0, 0, 0, 22, //
-    4, 0, 0, 0, 0, 0, 0, 0, 0, 0, 0, 0, 39, //
-];
-
-/// The mark of that block, whose root takes the last 63 bytes, and the closed one behind it.
-pub(crate) const SEALED: [u8; 26] = [
-    0, 0, 0, 0, 0, 0, 0, 115, 0, 0, 0, 63, 1, //
-    0, 0, 0, 0, 0, 0, 0, 0, 0, 0, 0, 0, 0,
-];
 
 /// The keys and values of the four leaves, of the trees 1 to 4.
 const LEAVES: [(&[u8], &[u8]); 4] = [
@@ -39,33 +14,14 @@ const LEAVES: [(&[u8], &[u8]); 4] = [
     (&[0, 0, 0, 0, 0, 0, 0, 0], b""),
 ];
 
-/// The puts that give these leaves, the last tree first.
-fn one_entity(alloc: Global) -> Result<Overlay, Memory>
-    ensures { IfOk result (λ changes. Fit (touched changes)) }
-{
-    let mut changes = no_changes(alloc);
-    put(&mut changes, alloc, 4, &[0, 0, 0, 0, 0, 0, 0, 0], b"")?;
-    put(
-        &mut changes,
-        alloc,
-        3,
-        &[0, 0, 0, 0],
-        &[0, 0, 0, 0, 0, 0, 0, 1],
-    )?;
-    put(&mut changes, alloc, 2, b"\x01T", &[0, 0, 0, 0])?;
-    put(&mut changes, alloc, 1, &[1, 0, 0, 0, 0], b"T")?;
-    Ok(changes)
-}
-
 /// The volume that a store leaves which was opened empty, made this one commit, and was closed.
 fn write_one_entity(alloc: Global) -> Result<MemoryVolume, Fail> {
-    let changes = one_entity(alloc)?;
     let volume = MemoryVolume::new(alloc)?;
-    let Ok(mut store) = Store::open(alloc, volume) else {
+    let Ok(mut env) = Env::open(alloc, volume, TARGET) else {
         return Err(Fail::from("no store was opened"));
     };
-    let flushed = store.flush(alloc, 0, &changes);
-    let (volume, closed) = store.close();
+    let flushed = commit(&mut env, alloc, &[Given::New("T")]);
+    let (volume, closed) = env.close();
     closed?;
     if flushed? == (Flushed::Commit { version: 1 }) {
         Ok(volume)
