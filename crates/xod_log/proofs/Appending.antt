@@ -38,13 +38,6 @@ not_device inner outer error is passed fine device =
     let same : error ≡ log_error.Device = cc (sym is ∙ device) in
     fine (out.1 ∙ ap (λ e. Err e) (out.2 ∙ same))
 
--- a refusal that was passed on came of want of memory where it is none of the others
-pub passed_memory : {T U : Type 0} (inner : Result T LogError) (outer : Result U LogError) (error : LogError) → inner ≡ Err error → IsErrAnd outer (λ passed. passed ≡ error)
-    → ¬ (IsErrOf outer log_error.Device) → ((last : ℕ) → ¬ (IsErrOf inner (log_error.NumbersSpent last))) → IsErrOf inner log_error.Memory
-passed_memory inner outer log_error.Memory is passed fine left = is
-passed_memory inner outer log_error.Device is passed fine left = absurd (not_device inner outer log_error.Device is passed fine is)
-passed_memory inner outer (log_error.NumbersSpent last) is passed fine left = absurd (left last is)
-
 -- where nothing was done
 pub nothing_appended : (file at count t : ℕ) (images : ℕ → Files → Type 0) → Passes t t images images (OnFile file (OnBytes (Torn at count)))
 nothing_appended file at count t images = rested t images (OnFile file (OnBytes (Torn at count)))

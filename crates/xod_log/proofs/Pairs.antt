@@ -1,6 +1,7 @@
 -- A pair is made: what reads give, and what a crash may leave.
 use Rattle.std.proofs.Common.{◌≡◌, ◌==◌, ◌&&◌, ◌||◌, ◌<◌, ◌≤◌, ◌⊎◌, ℕ, Bool, List, [], ◌∷◌, length, Some, None, true, false, IsSome, is_some, refl, sym, ◌∙◌, ap, subst, inl, inr, arith}
 use mathlib.Core.Logic.{◌≢◌}
+use Rattle.std.proofs.lemmas.Bool.{true≢false}
 use Rattle.std.specs.List.{list_any}
 use Rattle.std.specs.Ordering.{nat_cmp, eq_by_cmp}
 use Rattle.std.specs.Cmp.{nat_cmp_total, eq_by_cmp_equiv, unsigned_ties}
@@ -53,22 +54,49 @@ pub has_both : (file : ℕ) (now : Files) (body ends : List ℕ) → get now (bo
 has_both file now body ends has_body has_ends =
     sym (ap (λ (c : Content). is_some c && is_some (get now (ends_of file))) has_body ∙ ap (λ (c : Content). is_some c) has_ends)
 
-body_or_both : (body ends : Bool) → ((body && ends) || body) ≡ (body && true)
-body_or_both true true = refl
-body_or_both true false = refl
-body_or_both false ends = refl
+appears_kept : (was left : Content) → Appears was left → is_some was ≡ true → is_some left ≡ true
+appears_kept was left (inl same) there = ap (λ (c : Content). is_some c) same ∙ there
+appears_kept was left (inr made) there = ap (λ (c : Content). is_some c) made
 
--- once the ends are made it is there exactly where the body is
-pub found_pair : (file : ℕ) (was now : Files) (flag here found : Bool) → flag ≡ has_pair was file → here ≡ is_some (get was (body_of file))
-    → get now (body_of file) ≡ get was (body_of file) → get now (ends_of file) ≡ Some [] → found ≡ (flag || here) → found ≡ has_pair now file
-found_pair file was now flag here found known body same ends is =
+swapped : (a b : Bool) → (a && b) ≡ (b && a)
+swapped true true = refl
+swapped true false = refl
+swapped false true = refl
+swapped false false = refl
+
+still_both : (was is other : Bool) → (was ≡ true → is ≡ true) → ((was && other) || (is && other)) ≡ (is && other)
+still_both true true true kept = refl
+still_both true true false kept = refl
+still_both true false other kept = absurd (true≢false (sym (kept refl)))
+still_both false is other kept = refl
+
+-- it is known still where one of the two files came to be
+known_part : (was is other flag found : Bool) → (was ≡ true → is ≡ true) → flag ≡ (was && other) → found ≡ (flag || (is && other)) → found ≡ (is && other)
+known_part was is other flag found kept known same = same ∙ ap (λ (f : Bool). f || (is && other)) known ∙ still_both was is other kept
+
+-- first the ends do
+pub known_ends : (file : ℕ) (was now : Files) (flag here found : Bool) → OnFile (ends_of file) Appears was now → here ≡ is_some (get was (body_of file))
+    → flag ≡ has_pair was file → found ≡ (flag || (is_some (get now (ends_of file)) && here)) → found ≡ has_pair now file
+known_ends file was now flag here found on body known is =
     let b = is_some (get was (body_of file)) in
-    is
-    ∙ ap (λ (f : Bool). f || here) known
-    ∙ ap (λ (h : Bool). has_pair was file || h) body
-    ∙ body_or_both b (is_some (get was (ends_of file)))
-    ∙ ap (λ (c : Content). is_some c && true) (sym same)
-    ∙ ap (λ (c : Content). is_some (get now (body_of file)) && is_some c) (sym ends)
+    let e = is_some (get now (ends_of file)) in
+    known_part (is_some (get was (ends_of file))) e b flag found (appears_kept (get was (ends_of file)) (get now (ends_of file)) on.here)
+    (known ∙ swapped b (is_some (get was (ends_of file)))) (is ∙ ap (λ (h : Bool). flag || (e && h)) body)
+    ∙ swapped e b
+    ∙ ap (λ (c : Content). is_some c && e) (sym (on.others (body_of file) (files_apart file)))
+
+-- and then the body
+pub known_body : (file : ℕ) (was now : Files) (flag found : Bool) → OnFile (body_of file) Appears was now → get was (ends_of file) ≡ Some []
+    → flag ≡ has_pair was file → found ≡ (flag || (is_some (get now (body_of file)) && true)) → found ≡ has_pair now file
+known_body file was now flag found on ends known is =
+    let b = is_some (get now (body_of file)) in
+    known_part (is_some (get was (body_of file))) b true flag found (appears_kept (get was (body_of file)) (get now (body_of file)) on.here)
+    (known ∙ ap (λ (c : Content). is_some (get was (body_of file)) && is_some c) ends) is
+    ∙ ap (λ (c : Content). b && is_some c) (sym (on.others (ends_of file) (λ e. files_apart file (sym e)) ∙ ends))
+
+pub or_true : (flag : Bool) → (flag || true) ≡ true
+or_true true = refl
+or_true false = refl
 
 -- a pair without blocks in each image is durable
 pub empty_durable : (file : ℕ) (files : Files) (images : Files → Type 0) → IsEmptyPair file files → ((left : Files) → images left → IsEmptyPair file left) → IsDurablePair file files images

@@ -1,5 +1,5 @@
 //! Two calls of the device in one: what is written is durable where they succeed.
-ghost use Rattle.std.specs.Prelude.{◌≡◌, ◌≤◌, ◌+◌, ◌++◌, ℕ, Bool, [], length, OnOk, IsErrOf, IsSome, IsTrue, Some, is_some};
+ghost use Rattle.std.specs.Prelude.{◌≡◌, ◌≤◌, ◌+◌, ◌++◌, ℕ, Bool, [], true, length, OnOk, IsErrOf, IsSome, IsTrue, Some, is_some};
 ghost use mathlib.Core.Logic.{◌≢◌};
 ghost use Rattle.std.specs.FinMap.{get, insert};
 ghost use Rattle.xod_base.specs.Causes.{Rose};
@@ -75,9 +75,12 @@ pub fn append_synced<V: Volume>(volume: &mut V, file: u64, bytes: &[u8]) -> Resu
     Ok(())
 }
 
-/// Makes a file that is empty, or empties the one that is there, and syncs it.
-pub fn make_empty<V: Volume>(volume: &mut V, file: u64, is_there: bool) -> Result<(), LogError>
-    requires known { IsTrue (V.tells volume.old) → is_there ≡ is_some (get (V.files volume.old) file) }
+/// Makes a file that is empty, or empties the one that is there, and syncs it. `is_there` says whether the file is there,
+/// after the call as before it.
+pub fn make_empty<V: Volume>(volume: &mut V, file: u64, is_there: &mut bool) -> Result<(), LogError>
+    requires known { IsTrue (V.tells volume.old) → is_there.old ≡ is_some (get (V.files volume.old) file) }
+    ensures known { IsTrue (V.tells volume.old) → is_there.new ≡ is_some (get (V.files volume.new) file) }
+    ensures there { OnOk result (is_there.new ≡ true) }
     ensures emptied { IsTrue (V.tells volume.old) → OnOk result (get (V.files volume.new) file ≡ Some []) }
     ensures reads { IsTrue (V.tells volume.old) → OnFile file Appears (V.files volume.old) (V.files volume.new) }
     ensures unchanged { IsTrue (V.tells volume.old) → IsErrOf result LogError.Memory
@@ -98,8 +101,9 @@ pub fn make_empty<V: Volume>(volume: &mut V, file: u64, is_there: bool) -> Resul
     ensures stays { Stays (V.tells volume.old) (V.tells volume.new) (V.leases volume.old) (V.leases volume.new)
         (V.refs volume.old) (V.refs volume.new) (V.faults volume.old) (V.faults volume.new) }
 {
-    if !is_there {
+    if !*is_there {
         volume.create(file)?;
+        *is_there = true;
     }
     volume.cut(file, 0)?;
     volume.sync(file)?; // the cut

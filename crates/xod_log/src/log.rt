@@ -272,8 +272,8 @@ impl Log {
     }
 
     /// Seals, makes the next pair, and gives the log on it, without going on to it: `self` stays on the current file.
-    /// `has_next` says whether the next log file is there, before the call and after it, but for `Device`. Where a block is
-    /// then appended to the log given, and refused, `self` goes on standing (`stands_beside_an_append`).
+    /// `has_next` says whether the next log file is there, before the call and after it. Where a block is then appended to
+    /// the log given, and refused, `self` goes on standing (`stands_beside_an_append`).
     pub fn prepare_next<V: Volume>(
         &mut self,
         volume: &mut V,
@@ -294,7 +294,7 @@ impl Log {
             IsRolled self.old [] (V.files volume.old) (V.files volume.new)) }
         ensures next_pair { IsTrue (V.tells volume.old) → OnOk result (
             IsEmptyPair (self.old.file + 1) (V.files volume.new)) }
-        ensures next_known { IsTrue (V.tells volume.old) → ¬ (IsErrOf result LogError.Device)
+        ensures next_known { IsTrue (V.tells volume.old)
             → has_next.new ≡ has_pair (V.files volume.new) (self.old.file + 1) }
         ensures made { OnOk result (has_next.new ≡ true) }
         ensures never_lost { has_next.old ≡ true → has_next.new ≡ true }
@@ -446,7 +446,7 @@ impl Log {
             Stands next (V.files volume.new) (V.may_leave volume.new (V.moment volume.new))) }
         ensures rolled { IsTrue (V.tells volume.old) → OnOk result (
             IsRolled self.old [] (V.files volume.old) (V.files volume.new)) }
-        ensures next_known { IsTrue (V.tells volume.old) → ¬ (IsErrOf result LogError.Device)
+        ensures next_known { IsTrue (V.tells volume.old)
             → has_next.old ≡ has_pair (V.files volume.old) (self.old.file + 1)
             → has_next.new ≡ has_pair (V.files volume.new) (self.old.file + 1) }
         ensures made { OnOk result (has_next.new ≡ true) }

@@ -1,4 +1,4 @@
-use Rattle.std.proofs.Common.{IsTrue, [], sym, ◌∙◌, ap}
+use Rattle.std.proofs.Common.{◌≡◌, IsTrue, [], true, is_some, sym, ◌∙◌, ap}
 use Rattle.std.specs.FinMap.{get}
 use Rattle.xod_volume.specs.Files.{Files}
 use Rattle.xod_volume.specs.Crash.{OnFile, Appears, Passes}
@@ -24,6 +24,12 @@ ready : (g : Over) (c : After-cut-arg-1 g) → Ready g.V.Volume.tells g.V.Volume
 ready g c = elim c.if-not-is_there.branch [
   | then-not-is_there+in_ok-create w ↦ ready_made _ _ _ _ _ _ _ _ w.volume-is w.create.ensures.stays.tells w.in_ok-create.ensures.created w.create.ensures.crash
   | else-not-is_there w ↦ ready_there _ _ _ _ _ _ _ w.volume-is (λ told. sym (c.requires.known told) ∙ w.if-not-is_there.false)
+]
+
+flagged : (g : Over) (c : After-cut-arg-1 g) → c.if-not-is_there.is_there ≡ true
+flagged g c = elim c.if-not-is_there.branch [
+  | then-not-is_there+in_ok-create w ↦ w.is_there-is
+  | else-not-is_there w ↦ w.is_there-is ∙ w.if-not-is_there.false
 ]
 
 -- ---- it is cut
@@ -70,10 +76,31 @@ returns-in_err-cut-clause-reads g c told =
     let r = ready g (before-cut g (goal.at.returns-in_err-cut-clause-reads g c).After-cut) in
     same_after (OnFile c.args.file Appears) _ _ _ (r.made told).reads (c.in_err-cut.ensures.refused (rw r.tells_on told))
 
+pub returns-in_err-cut-clause-known : goal.returns-in_err-cut-clause-known
+returns-in_err-cut-clause-known g c told =
+    let here = before-cut g (goal.at.returns-in_err-cut-clause-known g c).After-cut in
+    let r = ready g here in
+    flagged g here ∙ sym (ap (λ (f : Files). is_some (get f c.args.file)) (c.in_err-cut.ensures.refused (rw r.tells_on told)) ∙ (r.made told).there)
+
 pub returns-in_err-cut-clause-others : goal.returns-in_err-cut-clause-others
 returns-in_err-cut-clause-others g c told other apart =
     let r = ready g (before-cut g (goal.at.returns-in_err-cut-clause-others g c).After-cut) in
     ap (λ (f : Files). get f other) (c.in_err-cut.ensures.refused (rw r.tells_on told)) ∙ (r.made told).others other apart
+
+emptied-known : (g : Over) (c : After-sync g) → IsTrue (g.V.Volume.tells c.args.volume.now) → c.if-not-is_there.is_there ≡ is_some (get (g.V.Volume.files c.sync.new.self) c.args.file)
+emptied-known g c told =
+    let here = before-cut g (cutting g (was-cut g c)) in
+    let r = ready g here in
+    let t1 : IsTrue (g.V.Volume.tells c.if-not-is_there.volume) = rw r.tells_on told in
+    let t2 : IsTrue (g.V.Volume.tells c.cut.new.self) = rw c.cut.ensures.stays.tells t1 in
+    flagged g here
+    ∙ sym (ap (λ (f : Files). is_some (get f c.args.file)) (c.sync.ensures.same t2) ∙ put_is_there _ _ c.args.file [] (c.in_ok-cut.ensures.shortened t1))
+
+pub returns-in_err-sync-clause-known : goal.returns-in_err-sync-clause-known
+returns-in_err-sync-clause-known g c = emptied-known g (goal.at.returns-in_err-sync-clause-known g c).After-sync
+
+pub returns-clause-known : goal.returns-clause-known
+returns-clause-known g c = emptied-known g (goal.at.returns-clause-known g c).After-sync
 
 pub returns-in_err-sync-clause-crash : goal.returns-in_err-sync-clause-crash
 returns-in_err-sync-clause-crash g c = sync-left g (goal.at.returns-in_err-sync-clause-crash g c).After-sync

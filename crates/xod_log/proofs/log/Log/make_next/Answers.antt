@@ -121,14 +121,14 @@ returns-clause-settled g c told fine other apart was =
 -- ---- whether the next log file is there
 
 pub returns-in_err-seal-clause-next_known : goal.returns-in_err-seal-clause-next_known
-returns-in_err-seal-clause-next_known g c told fine known = known ∙ sym (sealing_has_next c.args.self.now _ _ (c.seal.ensures.others told))
+returns-in_err-seal-clause-next_known g c told known = known ∙ sym (sealing_has_next c.args.self.now _ _ (c.seal.ensures.others told))
 
 pub returns-in_err-make_pair-clause-next_known : goal.returns-in_err-make_pair-clause-next_known
-returns-in_err-make_pair-clause-next_known g c told fine known =
+returns-in_err-make_pair-clause-next_known g c told known =
     let t1 : IsTrue (g.V.Volume.tells c.seal.new.volume) = rw c.seal.ensures.stays.tells told in
-    (rw c.in-Some.ensures.1 at c.make_pair.ensures.known t1 (λ bad. search rules)) (known ∙ sym (sealing_has_next c.args.self.now _ _ (c.seal.ensures.others told)))
+    (rw c.in-Some.ensures.1 at c.make_pair.ensures.known t1) (known ∙ sym (sealing_has_next c.args.self.now _ _ (c.seal.ensures.others told)))
 
 pub returns-clause-next_known : goal.returns-clause-next_known
-returns-clause-next_known g c told fine known =
+returns-clause-next_known g c told known =
     let t1 : IsTrue (g.V.Volume.tells c.seal.new.volume) = rw c.seal.ensures.stays.tells told in
-    (rw c.in-Some.ensures.1 at c.in_ok-make_pair.ensures.known t1 (λ bad. search rules)) (known ∙ sym (sealing_has_next c.args.self.now _ _ (c.seal.ensures.others told)))
+    (rw c.in-Some.ensures.1 at c.in_ok-make_pair.ensures.known t1) (known ∙ sym (sealing_has_next c.args.self.now _ _ (c.seal.ensures.others told)))

@@ -6,7 +6,7 @@ pub returns-in_err-next-clause-stands_on : goal.returns-in_err-next-clause-stand
 returns-in_err-next-clause-stands_on g c told not_device = c.make_next.ensures.stands_on told (λ bad. search rules)
 
 pub returns-in_err-next-clause-next_known : goal.returns-in_err-next-clause-next_known
-returns-in_err-next-clause-next_known g c told not_device = c.make_next.ensures.next_known told (λ bad. search rules) (c.requires.next_known told)
+returns-in_err-next-clause-next_known g c told = c.make_next.ensures.next_known told (c.requires.next_known told)
 
 pub returns-in_err-next-clause-claims : goal.returns-in_err-next-clause-claims
 returns-in_err-next-clause-claims g c told = roll_claims _ _ _ _ _ _ (c.requires.stands told) (c.make_next.ensures.leaves told) (c.make_next.ensures.body_first told)
@@ -15,7 +15,7 @@ pub returns-in_err-next-clause-settled : goal.returns-in_err-next-clause-settled
 returns-in_err-next-clause-settled g c told not_device = c.make_next.ensures.settled told (λ bad. search rules)
 
 pub returns-clause-next_known : goal.returns-clause-next_known
-returns-clause-next_known g c told not_device = c.in_ok-next.ensures.next_known told (λ bad. search rules) (c.requires.next_known told)
+returns-clause-next_known g c told = c.in_ok-next.ensures.next_known told (c.requires.next_known told)
 
 pub returns-clause-next_pair : goal.returns-clause-next_pair
 returns-clause-next_pair g c told = rolled_empty c.args.self.now _ _ (c.in_ok-next.ensures.rolled told)
