@@ -15,7 +15,6 @@ use Rattle.xod_log.specs.Ends.{end_at, body_of, ends_of}
 use Rattle.xod_log.specs.Standing.{Stands, appended_log, body_file, ends_file, has_pair, is_due, is_last, next_place_of, receiving_log, rolled_log}
 use Rattle.xod_log.proofs.CallerLemmas.{appended_file, files_apart, has_bytes, on_some, weakened}
 use Rattle.xod_pages.specs.Lent.{lent_bodies}
-use Rattle.xod_recover.specs.Check.{has_body}
 use Rattle.xod_recover.specs.Images.{Stores}
 use Rattle.xod_recover.specs.Opened.{is_used, open_count}
 use Rattle.xod_recover.specs.Tails.{Covers}
@@ -73,12 +72,6 @@ module _ (log : Log) (roots : Roots) (commit : ℕ) (files : Files) (images : Fi
 
   ends-same : get after (ends_file log) ≡ get files (ends_file log)
   ends-same = other-same (ends_file log) (λ e. files_apart log.file (sym e))
-
-  pub there-after : (file : ℕ) → has_body files file ≡ true → has_body after file ≡ true
-  there-after file has = elim (cases_eq file log.file) [
-    | inl same ↦ subst (λ (k : ℕ). has_body after k ≡ true) (sym same) (ap (λ (c : Content). is_some c) own-there)
-    | inr apart ↦ ap (λ (c : Content). is_some c) (other-same (body_of file) (λ e. apart (omega (arith, e)))) ∙ has
-  ]
 
   -- the last open mark is as it was
   pub end-same : sealed_end next after ≡ sealed_end log files

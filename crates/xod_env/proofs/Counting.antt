@@ -96,10 +96,6 @@ abbrev found : Option ℕ → Entries → ℕ
 found wanted [] = 0
 found wanted (e ∷ es) = if is_wanted wanted e.0 then 1 else 0
 
-found_none : (es : Entries) → found None es ≡ 0
-found_none [] = refl
-found_none (e ∷ es) = refl
-
 split_found : (wanted : Option ℕ) (es : Entries) → pairs_from wanted (numbers_of es) ≡ found wanted es + pairs_from None (numbers_of es)
 split_found wanted [] = refl
 split_found wanted (e ∷ es) = ap (λ (n : ℕ). found wanted (e ∷ es) + n) (zero_plus (pairs_from (ends_behind e.0) (numbers_of es)))

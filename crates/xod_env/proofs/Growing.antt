@@ -1,5 +1,5 @@
 -- A block behind the bodies: its records stand there, and what stood stays.
-use Rattle.std.proofs.Common.{◌≡◌, ◌≤◌, ℕ, ◌+◌, ◌*◌, ◌^◌, true, cond, eqb, List, [], ◌++◌, length, drop, Some, is_some, sym, ◌∙◌, ap, subst, arith, inl, inr}
+use Rattle.std.proofs.Common.{◌≡◌, ◌≤◌, ℕ, ◌+◌, ◌*◌, ◌^◌, cond, eqb, List, [], ◌++◌, length, drop, Some, sym, ◌∙◌, ap, subst, arith, inl, inr}
 use mathlib.Core.Logic.{◌≢◌}
 use Rattle.std.proofs.Math.Path.{fun_ext}
 use Rattle.std.proofs.lemmas.Bool.{cases_eq, cases_lt}
@@ -19,7 +19,6 @@ use Rattle.xod_volume.specs.Files.{Content, Files, bytes_in, bytes_of}
 use Rattle.xod_volume.proofs.CallerLemmas.{Torn-behind}
 use Rattle.xod_env.specs.Envs.{IsAt, bodies_up_to, env_records, env_trees}
 use Rattle.xod_env.proofs.Reaching.{body-not, body-up-to, map-kept}
-use Rattle.xod_recover.specs.Check.{has_body}
 use Rattle.xod_root.specs.Roots.{Roots}
 
 -- ---- a block behind one body
@@ -79,10 +78,3 @@ module _ (log : Log) (roots : Roots) (commit : ℕ) (files : Files) (images : Fi
   -- the trees are as they were
   pub grown-trees : env_trees log.file after roots ≡ env_trees log.file files roots
   grown-trees = fun_ext (λ tree. map-kept (env_records log.file files) (env_records log.file after) (get roots tree) (λ place is. grown-more (number_of place)) (at.maps tree))
-
-  -- a body that was there is there
-  pub grown-there : (file : ℕ) → has_body files file ≡ true → has_body after file ≡ true
-  grown-there file has = elim (cases_eq file log.file) [
-    | inl is ↦ subst (λ (k : ℕ). has_body after k ≡ true) (sym is) (ap (λ (c : Content). is_some c) own.1)
-    | inr apart ↦ ap (λ (c : Content). is_some c) (same-other file apart) ∙ has
-  ]

@@ -4,6 +4,7 @@ mod Counting
 mod FirstPair
 mod Growing
 mod KeyLengths
+mod Lasting
 mod Leaving
 mod Lending
 mod Naming

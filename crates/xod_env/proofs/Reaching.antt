@@ -12,7 +12,7 @@ use Rattle.xod_log.specs.Ends.{body_of}
 use Rattle.xod_trie.specs.Branches.{branch_of}
 use Rattle.xod_trie.specs.Damage.{AtRoot, Below, IsReached, Names}
 use Rattle.xod_trie.specs.Tries.{trie_map}
-use Rattle.xod_trie.proofs.CallerLemmas.{has_pairs, named-has, no_branch-map, reached-map, trie_map-more}
+use Rattle.xod_trie.proofs.CallerLemmas.{named-has, no_branch-map, reached-map, trie_map-more}
 use Rattle.std.proofs.lemmas.Bool.{cases_lt}
 use Rattle.xod_volume.proofs.CallerLemmas.{same_files}
 use Rattle.xod_volume.specs.Files.{Content, Files, bytes_in}
@@ -70,15 +70,6 @@ pub map-kept : (old new : RecordsAt) (o : Option Address) → ((at : Address) �
 map-kept old new None more some = refl
 map-kept old new (Some at) more some = trie_map-more old new at (more at refl) some
 
-pub never-reached : (records : RecordsAt) (at : Address) → IsReached records None at → ⊥
-never-reached records _ (AtRoot at is) = absurd cc
-never-reached records _ (Below at child reached names) = never-reached records at reached
-
-pub reached-kept : (old new : RecordsAt) (o : Option Address) → ((at : Address) → o ≡ Some at → OnlyMore old new (number_of at)) → IsSome (trie_map old o)
-    → (at : Address) → IsReached new o at → IsReached old o at
-reached-kept old new None more some at reached = absurd (never-reached new at reached)
-reached-kept old new (Some root) more some at reached = (reached-back old new root (more root refl) (has_pairs old root some) at reached).0
-
 -- ---- bodies up to the current one that are the same
 
 body-half : (current number : ℕ) → is_body_up_to current number ≡ true → number ≡ body_of (number / 2)
@@ -102,19 +93,6 @@ same-up-to current before now same = same_files _ _ (λ number.
 both-ways : (o : Option RecordValue) (item : RecordValue) → o ≡ None → o ≡ Some item → ⊥
 both-ways None item none is = cc is
 both-ways (Some other) item none is = cc none
-
--- what is reached stands in a log file up to the current one
-pub reached-low : (current : ℕ) (files : Files) (o : Option Address) (at : Address) → IsSome (trie_map (env_records current files) o) → IsReached (env_records current files) o at → at.file ≤ current
-reached-low current files o at some reached =
-    let n = number_of at in
-    let item = item-by (env_records current files) n (env_records current files n) refl (reached-map (env_records current files) o at reached some) in
-    elim (cases_lt current (n / 2 ^ 64)) [
-      | inl gt ↦
-          let none : record_in (drop (n % 2 ^ 64) (bytes_in (get (bodies_up_to current files) (body_of (n / 2 ^ 64))))) ≡ None =
-          ap (λ (c : Content). record_in (drop (n % 2 ^ 64) (bytes_in c))) (body-not current (n / 2 ^ 64) files gt) ∙ record_in-past (n % 2 ^ 64) [] (omega arith) in
-          absurd (both-ways (env_records current files n) item.0 none item.1)
-      | inr le ↦ omega (arith, le)
-    ]
 
 -- a record stands in bytes that are there
 there-by : (c : Content) (at : ℕ) (item : RecordValue) → record_in (drop at (bytes_in c)) ≡ Some item → is_some c ≡ true

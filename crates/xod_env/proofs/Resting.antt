@@ -5,7 +5,7 @@ use Rattle.xod_log.specs.Standing.{Stands}
 use Rattle.xod_root.specs.Roots.{Roots}
 use Rattle.xod_volume.specs.Crash.{Passes, Rests}
 use Rattle.xod_volume.specs.Files.{Files}
-use Rattle.xod_env.specs.Envs.{IsAt, IsOpenOn, IsSteady}
+use Rattle.xod_env.specs.Envs.{IsAt, IsSteady}
 
 -- ---- moments
 
@@ -81,9 +81,6 @@ module _ (log : Log) (files : Files) (past images : Files → Type 0) (fewer : (
     reaches = at.reaches;
   }
 
-  pub open_still : (roots : Roots) (commit count : ℕ) → IsOpenOn log roots commit count files past → IsOpenOn log roots commit count files images
-  open_still roots commit count opened = record { at = at_still roots commit opened.at; counted = opened.counted }
-
   pub steady_still : IsSteady log files past → IsSteady log files images
   steady_still steady = record {
     sound = λ left is. steady.sound left (fewer left is);
@@ -92,11 +89,6 @@ module _ (log : Log) (files : Files) (past images : Files → Type 0) (fewer : (
 
 module _ (log : Log) (before now : Files) (t0 t1 : ℕ) (i0 i1 : ℕ → Files → Type 0) (same : now ≡ before) (rests : Rests t0 t1 i0 i1) where
   -- over a call that only reads
-  pub open_over : (roots : Roots) (commit count : ℕ) → IsOpenOn log roots commit count before (i0 t0) → IsOpenOn log roots commit count now (i1 t1)
-  open_over roots commit count opened =
-      subst (λ (files : Files). IsOpenOn log roots commit count files (i1 t1)) (sym same)
-      (open_still log before (i0 t0) (i1 t1) (still_left t0 t1 i0 i1 rests) roots commit count opened)
-
   pub stands_over : Stands log before (i0 t0) → Stands log now (i1 t1)
   stands_over stands =
       subst (λ (files : Files). Stands log files (i1 t1)) (sym same)

@@ -25,7 +25,7 @@ use Rattle.xod_tables.specs.Reading.{rows_of}
 use Rattle.xod_trie.specs.Damage.{AtRoot, Below, IsReached}
 use Rattle.xod_trie.specs.Tries.{trie_map}
 use Rattle.xod_volume.specs.Files.{Content, Files, bytes_in, bytes_of}
-use Rattle.xod_env.specs.Envs.{ArePlaced, IsAt, env_records, env_trees, most_target}
+use Rattle.xod_env.specs.Envs.{IsAt, env_records, env_trees}
 use Rattle.xod_env.proofs.Reaching.{body-up-to, map-kept}
 use Rattle.xod_env.proofs.Sealed.{sealed-last}
 use Rattle.xod_env.proofs.Storing.{get-test, root-get}
@@ -140,13 +140,3 @@ module _ (found : Found) (files : Files) (images : Files → Type 0) (target : �
     top = top;
     reaches = sealed-last (resumed_log found.file found.end found.marks found.back target) rooted.fits back_fits files images stands refl;
   }
-
--- its roots are placed
-pub resumed_placed : (found : Found) (target : ℕ) → IsRooted found → target ≤ most_target → 0 < target → ArePlaced (resumed_log found.file found.end found.marks found.back target) found.roots
-resumed_placed found target rooted low some = record {
-  numbered = rooted.numbered;
-  below = rooted.below;
-  low = low;
-  some = some;
-  fits = rooted.fits;
-}

@@ -1,31 +1,30 @@
 -- The block of a commit is written behind a call that only reads.
-use Rattle.std.proofs.Common.{◌≡◌, ℕ, ◌+◌, List, Some, Result, Ok, Err, OnOk, refl, sym, ◌∙◌, ap, subst, inl, arith}
+use Rattle.std.proofs.Common.{◌≡◌, ℕ, ◌+◌, List, Some, Result, Err, OnOk, refl, sym, ◌∙◌, ap, subst, inl, arith}
+use Rattle.std.specs.FinMap.{contains_key}
 use Rattle.xod_log.specs.declared.error.LogError.{LogError}
 use Rattle.xod_log.specs.declared.log.Log.{Log}
+use Rattle.xod_log.specs.Standing.{body_file}
 use Rattle.xod_recover.specs.Images.{Stores}
 use Rattle.xod_volume.specs.Crash.{Passes, Rests}
 use Rattle.xod_volume.specs.Files.{Files}
 use Rattle.xod_env.specs.Blocks.{IsNextBlock, trees_with}
-use Rattle.xod_env.specs.Envs.{env_trees, newest_stored}
+use Rattle.xod_env.specs.Envs.{env_trees, log_file_count, newest_stored}
 use Rattle.xod_env.specs.Flushes.{WritesBlock}
-use Rattle.xod_env.proofs.Resting.{at_over, left_still, open_over, rest_alone, rest_before, steady_over}
+use Rattle.xod_env.proofs.Resting.{at_over, left_still, rest_alone, rest_before, steady_over}
 
 -- the number of log files goes with the count
 pub counted_is : (result count before now had has : ℕ) → result + had ≡ count + has → now + had ≡ before + has → count ≡ before → result ≡ now
 counted_is result count before now had has own files same = omega (arith, own, files, same)
-
--- what holds after Ok, and what follows from it
-pub on_ok : {A E : Type 0} (result : Result A E) (P Q : Type 0) → OnOk result P → (P → Q) → OnOk result Q
-on_ok (Ok x) P Q holds follows = follows holds
-on_ok (Err error) P Q holds follows = tt
 
 module _ {V A : Type 0} (files : V → Files) (moment : V → ℕ) (may_leave : V → ℕ → Files → Type 0) (log : Log) (count : ℕ) (block : List ℕ) (back : ℕ) (a b : V)
     (same : files b ≡ files a) (rests : Rests (moment a) (moment b) (may_leave a) (may_leave b)) where
   -- what only reads and is refused
   pub writes_nothing : (error : LogError) → WritesBlock {A = A} files moment may_leave log log count count block back a b (Err error)
   writes_nothing error = record {
-    opened = λ roots commit new_roots new_commit opened next. tt;
-    kept_open = λ roots commit opened err fine. open_over log (files a) (files b) (moment a) (moment b) (may_leave a) (may_leave b) same rests roots commit count opened;
+    at = λ roots commit new_roots new_commit at next. tt;
+    at_kept = λ roots commit at err fine. at_over log (files a) (files b) (moment a) (moment b) (may_leave a) (may_leave b) same rests roots commit at;
+    count = λ counted. counted ∙ ap log_file_count (sym same);
+    body_stays = λ there. ap (λ (f : Files). contains_key f (body_file log)) same ∙ there;
     new_trees = λ roots commit new_roots new_commit at next. tt;
     old_trees = λ roots commit at. ap (λ (f : Files). env_trees log.file f roots) same;
     kept = λ left. subst (may_leave b (moment b)) (sym same) (left_still (moment a) (moment b) (may_leave a) (may_leave b) rests (files a) left);
@@ -37,12 +36,14 @@ module _ {V A : Type 0} (files : V → Files) (moment : V → ℕ) (may_leave : 
   pub writes_then : (after : Log) (counted : ℕ) (c : V) (result : Result A LogError)
       → WritesBlock files moment may_leave log after count counted block back b c result → WritesBlock files moment may_leave log after count counted block back a c result
   writes_then after counted c result w = record {
-    opened = λ roots commit new_roots new_commit opened next.
-        w.opened roots commit new_roots new_commit
-        (open_over log (files a) (files b) (moment a) (moment b) (may_leave a) (may_leave b) same rests roots commit count opened)
+    at = λ roots commit new_roots new_commit at next.
+        w.at roots commit new_roots new_commit
+        (at_over log (files a) (files b) (moment a) (moment b) (may_leave a) (may_leave b) same rests roots commit at)
         (subst (λ (f : Files). IsNextBlock log f block back new_roots new_commit) (sym same) next);
-    kept_open = λ roots commit opened err fine.
-        w.kept_open roots commit (open_over log (files a) (files b) (moment a) (moment b) (may_leave a) (may_leave b) same rests roots commit count opened) err fine;
+    at_kept = λ roots commit at err fine.
+        w.at_kept roots commit (at_over log (files a) (files b) (moment a) (moment b) (may_leave a) (may_leave b) same rests roots commit at) err fine;
+    count = λ counted. w.count (counted ∙ ap log_file_count (sym same));
+    body_stays = λ there. w.body_stays (ap (λ (f : Files). contains_key f (body_file log)) same ∙ there);
     new_trees = λ roots commit new_roots new_commit at next.
         subst (λ (f : Files). OnOk result (env_trees after.file (files c) new_roots ≡ trees_with log f block new_roots)) same
         (w.new_trees roots commit new_roots new_commit (at_over log (files a) (files b) (moment a) (moment b) (may_leave a) (may_leave b) same rests roots commit at)

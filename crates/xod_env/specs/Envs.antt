@@ -105,11 +105,6 @@ pub record IsAt (log : Log) (roots : Roots) (commit : ℕ) (files : Files) (imag
   pub top : UnusedFrom (suc log.file) files
   pub reaches : sealed_end log files ≤ log.end
 
--- It is open there: it is at the commit, and has counted the log files.
-pub record IsOpenOn (log : Log) (roots : Roots) (commit count : ℕ) (files : Files) (images : Files → Type 0) : Type 0 where
-  pub at : IsAt log roots commit files images
-  pub counted : count ≡ log_file_count files
-
 -- ---- what a crash may leave
 
 -- where the last open mark of a log file says that its sealed bytes end

@@ -1,23 +1,21 @@
 -- What a flush answers, and what a refusal leaves.
 use Rattle.std.specs.Prelude.{◌≡◌, ◌≢◌, ◌≤◌, ◌⊎◌, ℕ, suc, Bool, true, false, if◌then◌else◌, IsTrue, List, Some, Result, Ok, Err, IsErr, IsErrOf, OnOk}
-use Rattle.std.specs.FinMap.{empty}
+use Rattle.std.specs.FinMap.{contains_key, empty}
 use Rattle.xod_base.specs.Views.{Trees}
 use Rattle.xod_log.specs.declared.error.LogError.{LogError}
 use Rattle.xod_log.specs.declared.error.LogError.TheVariants.{Device}
 use Rattle.xod_log.specs.declared.log.Log.{Log}
-use Rattle.xod_log.specs.Standing.{is_due, is_last, last_file}
+use Rattle.xod_log.specs.Standing.{body_file, is_due, is_last, last_file}
 use Rattle.xod_overlay.specs.Marks.{TouchMap}
 use Rattle.xod_recover.specs.Images.{Stores}
 use Rattle.xod_root.specs.Roots.{Roots}
 use Rattle.xod_volume.specs.Crash.{Passes}
 use Rattle.xod_volume.specs.Files.{Files}
 use Rattle.xod_env.specs.declared.error.FlushError.{FlushError}
-use Rattle.xod_env.specs.declared.error.FlushError.TheVariants as flush_error
-use Rattle.xod_env.specs.declared.error.FlushError.TheVariants.{Broken, Damaged, NumbersSpent, Memory, Conflict}
 use Rattle.xod_env.specs.declared.flushed.Flushed.{Flushed}
 use Rattle.xod_env.specs.declared.flushed.Flushed.TheVariants.{Nothing, Commit}
 use Rattle.xod_env.specs.Blocks.{IsNextBlock, trees_with}
-use Rattle.xod_env.specs.Envs.{ArePlaced, IsAt, IsOpenOn, IsSteady, env_trees, newest_stored}
+use Rattle.xod_env.specs.Envs.{ArePlaced, IsAt, IsSteady, env_trees, log_file_count, newest_stored}
 
 -- no key of any tree is touched
 abbrev pub IsUntouched : (ℕ → TouchMap) → Type 0
@@ -47,13 +45,13 @@ abbrev pub IsSpent : ℕ → Log → ℕ → Type 0
 IsSpent commit log last = ((commit ≡ last_commit) × (last ≡ last_commit)) ⊎ IsFileSpent log last
 
 -- The log goes on in the file that it was in or, where a commit found it as long as its target, in the next one; its
--- target is the same. After a write that failed it may be in either.
-pub record GoesOn (before after : Log) (has_committed has_failed : Bool) : Type 0 where
+-- target is the same. A refusal leaves it in its file.
+pub record GoesOn (before after : Log) (has_committed : Bool) : Type 0 where
   pub target : after.target ≡ before.target
   pub rises : before.file ≤ after.file
   pub within : after.file ≤ suc before.file
   pub committed : IsTrue has_committed → after.file ≡ (if is_due before then suc before.file else before.file)
-  pub refused : has_committed ≡ false → has_failed ≡ false → after.file ≡ before.file
+  pub refused : has_committed ≡ false → after.file ≡ before.file
 
 -- whether a flush made a commit
 abbrev pub is_commit : Result Flushed FlushError → Bool
@@ -61,33 +59,26 @@ is_commit (Ok Nothing) = false
 is_commit (Ok (Commit version)) = true
 is_commit (Err error) = false
 
--- whether it answers that the device failed
-abbrev pub is_failure : {A : Type 0} → Result A FlushError → Bool
-is_failure (Ok answer) = false
-is_failure (Err Broken) = false
-is_failure (Err flush_error.Device) = true
-is_failure (Err (Damaged place)) = false
-is_failure (Err (NumbersSpent last)) = false
-is_failure (Err Memory) = false
-is_failure (Err (Conflict base now)) = false
-
 -- The newest commit, its roots and its trees are as they were.
 pub record KeepsCommit (told : Bool) (commit_before commit_now : ℕ) (roots_before roots_now : Roots) (trees_before trees_now : Trees) : Type 0 where
   pub commit : commit_now ≡ commit_before
   pub roots : roots_now ≡ roots_before
   pub trees : IsTrue told → (tree : ℕ) → trees_now tree ≡ trees_before tree
 
--- What the block of a commit leaves that was written, and what a refusal leaves: of where the environment is open, of its
--- trees, and of what a crash may leave. The members are those of a volume's trait.
-pub record WritesBlock {V A : Type 0} (files : V → Files) (moment : V → ℕ) (may_leave : V → ℕ → Files → Type 0) (log after : Log) (count counted : ℕ) (block : List ℕ) (back : ℕ) (before now : V) (result : Result A LogError) : Type 0 where
-  pub opened : (roots : Roots) (commit : ℕ) (new_roots : Roots) (new_commit : ℕ)
-      → IsOpenOn log roots commit count (files before) (may_leave before (moment before))
+-- What the block of a commit leaves that was written, and what a refusal leaves: of where the environment is, of its trees,
+-- of the number of log files, of the body that the log was on, and of what a crash may leave. The members are those of a
+-- volume's trait.
+pub record WritesBlock {V A : Type 0} (files : V → Files) (moment : V → ℕ) (may_leave : V → ℕ → Files → Type 0) (log after : Log) (count_before count_now : ℕ) (block : List ℕ) (back : ℕ) (before now : V) (result : Result A LogError) : Type 0 where
+  pub at : (roots : Roots) (commit : ℕ) (new_roots : Roots) (new_commit : ℕ)
+      → IsAt log roots commit (files before) (may_leave before (moment before))
       → IsNextBlock log (files before) block back new_roots new_commit
-      → OnOk result (IsOpenOn after new_roots new_commit counted (files now) (may_leave now (moment now)))
-  pub kept_open : (roots : Roots) (commit : ℕ)
-      → IsOpenOn log roots commit count (files before) (may_leave before (moment before))
+      → OnOk result (IsAt after new_roots new_commit (files now) (may_leave now (moment now)))
+  pub at_kept : (roots : Roots) (commit : ℕ)
+      → IsAt log roots commit (files before) (may_leave before (moment before))
       → IsErr result → ¬ (IsErrOf result Device)
-      → IsOpenOn after roots commit counted (files now) (may_leave now (moment now))
+      → IsAt after roots commit (files now) (may_leave now (moment now))
+  pub count : count_before ≡ log_file_count (files before) → count_now ≡ log_file_count (files now)
+  pub body_stays : contains_key (files before) (body_file log) ≡ true → contains_key (files now) (body_file log) ≡ true
   pub new_trees : (roots : Roots) (commit : ℕ) (new_roots : Roots) (new_commit : ℕ)
       → IsAt log roots commit (files before) (may_leave before (moment before))
       → IsNextBlock log (files before) block back new_roots new_commit

@@ -2,17 +2,19 @@
 //!
 //! It lends snapshots of its newest commit, commits touched keys over it, and makes it outlive a crash. How it is opened
 //! stands in `opening`, and the steps of a flush in `flush`. What it is open on stands in `specs/Envs.antt`.
-ghost use Rattle.std.specs.Prelude.{◌≡◌, ◌≤◌, Ok, Err, is_some, ◌∷◌, ◌↔◌, ◌<◌, ◌+◌, ◌^◌, ℕ, false, true, if◌then◌else◌, is_ok, IfOk, IsErr, IsErrOf, IsTrue, OnErr, OnOk, Some};
-ghost use Rattle.std.specs.FinMap.{keys};
+ghost use Rattle.std.specs.Prelude.{◌≡◌, ◌≤◌, Ok, Err, is_some, ◌∷◌, ◌↔◌, ◌<◌, ◌+◌, ◌^◌, ℕ, false, true, if◌then◌else◌, is_ok, IfOk, IsErr, IsErrOf, IsOk, IsTrue, OnErr, OnOk, Some};
+ghost use Rattle.std.specs.FinMap.{contains_key, keys};
 ghost use Rattle.std.specs.List.{filter};
 ghost use Rattle.std.proofs.Props.{props};
 ghost use Rattle.xod_base.specs.Causes.{Rose};
 ghost use Rattle.xod_base.specs.declared.causes.Place.{Place};
 ghost use Rattle.xod_commit.specs.Blocks.{Fit};
 ghost use Rattle.xod_log.specs.declared.error.LogError.{LogError};
+ghost use Rattle.xod_log.specs.Ends.{body_of};
 ghost use Rattle.xod_log.specs.Standing.{is_due, is_last, last_file, next_place_of, sealed_log};
 ghost use Rattle.xod_overlay.specs.Marks.{overlaid_trees, touched};
 ghost use Rattle.xod_recover.specs.Images.{AllStore, Settled, Stores};
+ghost use Rattle.xod_recover.specs.Stores.{stored_in};
 ghost use Rattle.xod_root.specs.Roots.{Roots};
 ghost use Rattle.xod_tables.specs.Reading.{rows_of};
 ghost use Rattle.xod_volume.specs.Crash.{Passes};
@@ -24,8 +26,8 @@ ghost use Rattle.xod_env.specs.Blocks.{IsNextBlock, trees_with};
 ghost use Rattle.xod_env.specs.Bodies.{is_body_up_to};
 ghost use Rattle.xod_env.specs.Building.{IsPlacedAt};
 ghost use Rattle.xod_env.specs.EnvCalls.{KeepsFiles, KeepsNewest, Refuses};
-ghost use Rattle.xod_env.specs.Envs.{ArePlaced, IsOpenOn, IsSteady, env_trees, newest_stored};
-ghost use Rattle.xod_env.specs.Flushes.{GoesOn, IsConflict, IsFileSpent, IsSpent, IsUntouched, KeepsCommit, is_commit, is_failure, last_commit};
+ghost use Rattle.xod_env.specs.Envs.{ArePlaced, IsAt, IsSteady, env_trees, log_file_count, newest_stored};
+ghost use Rattle.xod_env.specs.Flushes.{GoesOn, IsConflict, IsFileSpent, IsSpent, IsUntouched, KeepsCommit, is_commit, last_commit};
 ghost use Rattle.xod_snapshot.specs.Snapshots.{snapshot_trees};
 
 use crate::error::{EnvError, FlushError};
@@ -45,8 +47,9 @@ use xod_volume::Volume;
 
 /// The newest commit of a store, over the files of a volume.
 ///
-/// It is broken once a write failed in it, and promises nothing of its files from there. It is not dropped: `close` hands
-/// its volume back.
+/// It is broken once a write failed in it, and promises nothing of its files from there but how many log files there are,
+/// and that the last log file's body is there where its log is on that file.
+/// It is not dropped: `close` hands its volume back.
 pub struct Env<V: Volume> {
     volume: V,
     log: Log,
@@ -55,9 +58,12 @@ pub struct Env<V: Volume> {
     file_count: u64,
     kinds: NameList,
     is_broken: bool,
-    ghost opened: { is_broken ≡ false → IsTrue (V.tells volume) → IsOpenOn log roots
-        commit file_count (V.files volume) (V.may_leave volume (V.moment volume)) } by { Prim.hlevel props },
+    ghost opened: { is_broken ≡ false → IsTrue (V.tells volume) → IsAt log roots
+        commit (V.files volume) (V.may_leave volume (V.moment volume)) } by { Prim.hlevel props },
+    ghost counted: { IsTrue (V.tells volume) → file_count ≡ log_file_count (V.files volume) },
     ghost placed: { ArePlaced log roots },
+    ghost last: { IsTrue (V.tells volume) → is_last log ≡ true
+        → contains_key (V.files volume) (body_of last_file) ≡ true },
 }
 
 impl<V: Volume> Env<V> {
@@ -71,9 +77,12 @@ impl<V: Volume> Env<V> {
         file_count: u64,
         kinds: NameList,
     ) -> Self
-        requires opened { IsTrue (V.tells volume) → IsOpenOn log roots commit file_count
+        requires opened { IsTrue (V.tells volume) → IsAt log roots commit
             (V.files volume) (V.may_leave volume (V.moment volume)) }
+        requires counted { IsTrue (V.tells volume) → file_count ≡ log_file_count (V.files volume) }
         requires placed { ArePlaced log roots }
+        requires last { IsTrue (V.tells volume) → is_last log ≡ true
+            → contains_key (V.files volume) (body_of last_file) ≡ true }
         ensures volume { result.volume ≡ volume }
         ensures log { result.log ≡ log }
         ensures roots { result.roots ≡ roots }
@@ -107,9 +116,11 @@ impl<V: Volume> Env<V> {
         self.log.file()
     }
 
-    /// How many log files there are.
+    /// How many log files there are, also where the environment is broken.
     pub fn files(&self) -> u64
-        ensures { result ≡ self.now.file_count }
+        ensures exact { result ≡ self.now.file_count }
+        ensures counted { IsTrue (V.tells self.now.volume)
+            → result ≡ log_file_count (V.files self.now.volume) }
     {
         self.file_count
     }
@@ -213,7 +224,7 @@ impl<V: Volume> Env<V> {
             (env_trees self.new.log.file (V.files self.new.volume) self.new.roots)) }
         ensures breaks_exactly { (self.new.is_broken ≡ true) ↔ IsErrOf result LogError.Device }
         ensures numbers_stay { (last : ℕ) → ¬ (IsErrOf result (LogError.NumbersSpent last)) }
-        ensures goes_on { GoesOn self.old.log self.new.log (is_ok result) false }
+        ensures goes_on { GoesOn self.old.log self.new.log (is_ok result) }
         ensures kinds { self.new.kinds ≡ self.old.kinds }
         ensures failed { IsErrOf result LogError.Device
             → Rose (V.faults self.old.volume) (V.faults self.new.volume) }
@@ -238,7 +249,7 @@ impl<V: Volume> Env<V> {
         ensures steady { IsTrue (V.tells self.old.volume)
             → IsSteady self.old.log (V.files self.old.volume)
             (V.may_leave self.old.volume (V.moment self.old.volume))
-            → ¬ (IsErrOf result LogError.Device)
+            → self.new.is_broken ≡ false
             → IsSteady self.new.log (V.files self.new.volume)
             (V.may_leave self.new.volume (V.moment self.new.volume)) }
     {
@@ -295,8 +306,7 @@ impl<V: Volume> Env<V> {
         ensures spent_by_file { (last : ℕ) → IsErrOf result (FlushError.NumbersSpent last)
             → IsFileSpent self.old.log last }
         ensures room { is_due self.old.log ≡ true → is_last self.old.log ≡ true → IsErr result }
-        ensures goes_on { GoesOn self.old.log self.new.log (is_ok result)
-            (is_failure result) }
+        ensures goes_on { GoesOn self.old.log self.new.log (is_ok result) }
         ensures kinds { self.new.kinds ≡ self.old.kinds }
         ensures never_damaged { IsTrue (V.tells self.old.volume) → (place : Place)
             → ¬ (IsErrOf result (FlushError.Damaged place)) }
@@ -324,7 +334,7 @@ impl<V: Volume> Env<V> {
         ensures steady { IsTrue (V.tells self.old.volume)
             → IsSteady self.old.log (V.files self.old.volume)
             (V.may_leave self.old.volume (V.moment self.old.volume))
-            → ¬ (IsErrOf result FlushError.Device)
+            → self.new.is_broken ≡ false
             → IsSteady self.new.log (V.files self.new.volume)
             (V.may_leave self.new.volume (V.moment self.new.volume)) }
     {
@@ -386,7 +396,7 @@ impl<V: Volume> Env<V> {
             → IsSpent self.old.commit self.old.log last }
         ensures spent_by_file { is_due self.old.log ≡ true → is_last self.old.log ≡ true
             → is_commit result ≡ false }
-        ensures goes_on { GoesOn self.old.log self.new.log (is_commit result) (is_failure result) }
+        ensures goes_on { GoesOn self.old.log self.new.log (is_commit result) }
         ensures kinds { self.new.kinds ≡ self.old.kinds }
 
         // Each refusal.
@@ -422,7 +432,7 @@ impl<V: Volume> Env<V> {
         ensures steady { IsTrue (V.tells self.old.volume)
             → IsSteady self.old.log (V.files self.old.volume)
             (V.may_leave self.old.volume (V.moment self.old.volume))
-            → ¬ (result ≡ Err FlushError.Device)
+            → self.new.is_broken ≡ false
             → IsSteady self.new.log (V.files self.new.volume)
             (V.may_leave self.new.volume (V.moment self.new.volume)) }
     {
@@ -455,9 +465,15 @@ impl<V: Volume> Env<V> {
             → OnOk result (AllStore (Some (newest_stored self.old.log.file
             (V.files self.old.volume) self.old.roots self.old.commit))
             (V.may_leave self.new.volume (V.moment self.new.volume))) }
+        ensures stores { IsTrue (V.tells self.old.volume) → OnOk result (
+            stored_in (V.files self.new.volume) ≡ Some (newest_stored self.old.log.file
+            (V.files self.old.volume) self.old.roots self.old.commit)) }
         ensures refusals { Refuses self.old.is_broken (V.faults self.old.volume)
             (V.faults self.new.volume) result }
         ensures broken_before_all { self.old.is_broken ≡ true → self.new ≡ self.old }
+        ensures sealed_rests { self.old.log.is_sealed ≡ true → self.old.is_broken ≡ false
+            → IsOk result × (self.new.volume ≡ self.old.volume)
+            × (self.new.log ≡ self.old.log) }
         ensures breaks_exactly { self.old.is_broken ≡ false
             → (self.new.is_broken ≡ true) ↔ IsErrOf result EnvError.Device }
         ensures log { self.new.log
@@ -524,9 +540,18 @@ impl<V: Volume> Env<V> {
             → OnOk result.1 (AllStore (Some (newest_stored self.log.file
             (V.files self.volume) self.roots self.commit))
             (V.may_leave result.0 (V.moment result.0))) }
+        ensures stores { IsTrue (V.tells self.volume) → OnOk result.1 (
+            stored_in (V.files result.0) ≡ Some (newest_stored self.log.file
+            (V.files self.volume) self.roots self.commit)) }
         ensures refusals { Refuses self.is_broken (V.faults self.volume)
             (V.faults result.0) result.1 }
         ensures broken_seals_nothing { self.is_broken ≡ true → result.0 ≡ self.volume }
+        ensures sealed_rests { self.log.is_sealed ≡ true → self.is_broken ≡ false
+            → result.0 ≡ self.volume }
+        ensures counted { IsTrue (V.tells self.volume)
+            → log_file_count (V.files result.0) ≡ self.file_count }
+        ensures last { IsTrue (V.tells self.volume) → is_last self.log ≡ true
+            → contains_key (V.files result.0) (body_of last_file) ≡ true }
         ensures stays { Stays (V.tells self.volume) (V.tells result.0)
             (V.leases self.volume) (V.leases result.0) (V.refs self.volume) (V.refs result.0)
             (V.faults self.volume) (V.faults result.0) }

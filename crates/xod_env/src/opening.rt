@@ -14,7 +14,7 @@ ghost use Rattle.xod_recover.specs.Images.{Settled, UnusedFrom};
 ghost use Rattle.xod_recover.specs.Reads.{OnlyReads};
 ghost use Rattle.xod_recover.specs.Stores.{stored_in};
 ghost use Rattle.xod_volume.specs.declared.volume.VolumeError.{VolumeError};
-ghost use Rattle.xod_env.specs.Envs.{ArePlaced, IsAt, IsOpenOn, IsSteady, env_trees, log_file_count, most_target, newest_stored, no_roots};
+ghost use Rattle.xod_env.specs.Envs.{ArePlaced, IsAt, IsSteady, env_trees, log_file_count, most_target, newest_stored, no_roots};
 ghost use Rattle.xod_env.specs.Opening.{LeavesStored, kinds_in};
 
 use crate::count::count_log_files;
@@ -144,9 +144,11 @@ struct Opened {
 fn open_on<V: Volume>(alloc: Global, volume: &mut V, target: u64) -> Result<Opened, OpenError>
     requires some { 0 < target }
     requires low { target ≤ most_target }
-    ensures opened { IsTrue (V.tells volume.old) → IfOk result (λ opened.
-        IsOpenOn opened.start.log opened.start.roots opened.start.commit opened.file_count
+    ensures at { IsTrue (V.tells volume.old) → IfOk result (λ opened.
+        IsAt opened.start.log opened.start.roots opened.start.commit
         (V.files volume.new) (V.may_leave volume.new (V.moment volume.new))) }
+    ensures count { IsTrue (V.tells volume.old) → IfOk result (λ opened.
+        opened.file_count ≡ log_file_count (V.files volume.new)) }
     ensures placed { IfOk result (λ opened. ArePlaced opened.start.log opened.start.roots) }
     ensures kinds { IsTrue (V.tells volume.old) → IfOk result (λ opened.
         kinds_in (V.files volume.old) ≡ Some opened.start.kinds) }
@@ -185,6 +187,9 @@ impl<V: Volume> Env<V> {
         ensures found { IsTrue (V.tells volume) → IfOk result (λ env.
             stored_in (V.files volume) ≡ Some (newest_stored env.log.file (V.files env.volume)
             env.roots env.commit)) }
+        ensures stores { IsTrue (V.tells volume) → IfOk result (λ env.
+            stored_in (V.files env.volume) ≡ Some (newest_stored env.log.file
+            (V.files env.volume) env.roots env.commit)) }
         ensures kinds { IsTrue (V.tells volume) → IfOk result (λ env.
             kinds_of (env_trees env.log.file (V.files env.volume) env.roots)
             ≡ Some env.kinds) }

@@ -3,13 +3,13 @@
 //! Each step is a call of the log or two. Roots and commit stand in clauses alone: whoever knows
 //! them to be the environment's (`IsAt`) learns where it is after the step, and what a crash
 //! leaves of it.
-ghost use Rattle.std.specs.Prelude.{◌≡◌, ◌<◌, ◌≤◌, ◌⊎◌, ◌↔◌, ◌+◌, ◌^◌, ℕ, false, true, if◌then◌else◌, length, is_ok, Err, IfOk, IsErr, IsErrOf, IsTrue, OnErr, OnOk, Some};
-ghost use Rattle.std.specs.FinMap.{get};
+ghost use Rattle.std.specs.Prelude.{◌≡◌, ◌<◌, ◌≤◌, ◌⊎◌, ◌↔◌, ◌+◌, ◌^◌, ℕ, false, true, if◌then◌else◌, length, is_ok, Err, IfOk, IsErr, IsErrOf, IsOk, IsTrue, OnErr, OnOk, Some};
+ghost use Rattle.std.specs.FinMap.{contains_key, get};
 ghost use Rattle.xod_base.specs.Causes.{Rose};
 ghost use Rattle.xod_log.specs.declared.error.LogError.{LogError};
 ghost use Rattle.xod_log.specs.Calls.{MakesPair};
 ghost use Rattle.xod_log.specs.Ends.{IsUsed};
-ghost use Rattle.xod_log.specs.Standing.{Stands, appended_log, empty_log, has_pair, is_due, last_file, rolled_log, sealed_log};
+ghost use Rattle.xod_log.specs.Standing.{Stands, appended_log, body_file, empty_log, has_pair, is_due, last_file, rolled_log, sealed_log};
 ghost use Rattle.xod_recover.specs.Images.{AllStore, Settled, Stores};
 ghost use Rattle.xod_recover.specs.Stores.{stored_in};
 ghost use Rattle.xod_root.specs.Roots.{Roots};
@@ -26,6 +26,8 @@ pub(crate) fn seal_newest<V: Volume>(volume: &mut V, log: &mut Log) -> Result<()
     requires stands { IsTrue (V.tells volume.old) → Stands log.old (V.files volume.old)
         (V.may_leave volume.old (V.moment volume.old)) }
     ensures log { log.new ≡ (if is_ok result then sealed_log log.old else log.old) }
+    ensures nothing_to_do { log.old.is_sealed ≡ true
+        → IsOk result × (volume.new ≡ volume.old) }
     ensures numbers_left { (last : ℕ) → ¬ (IsErrOf result (LogError.NumbersSpent last)) }
     ensures failed { IsErrOf result LogError.Device
         → Rose (V.faults volume.old) (V.faults volume.new) }
@@ -44,8 +46,15 @@ pub(crate) fn seal_newest<V: Volume>(volume: &mut V, log: &mut Log) -> Result<()
     ensures trees { IsTrue (V.tells volume.old) → (roots : Roots)
         → env_trees log.old.file (V.files volume.new) roots
         ≡ env_trees log.old.file (V.files volume.old) roots }
+    ensures stores { IsTrue (V.tells volume.old) → (roots : Roots) (commit : ℕ)
+        → IsAt log.old roots commit (V.files volume.old)
+        (V.may_leave volume.old (V.moment volume.old))
+        → ArePlaced log.old roots → OnOk result (stored_in (V.files volume.new)
+        ≡ Some (newest_stored log.old.file (V.files volume.old) roots commit)) }
     ensures count { IsTrue (V.tells volume.old)
         → log_file_count (V.files volume.new) ≡ log_file_count (V.files volume.old) }
+    ensures body_stays { IsTrue (V.tells volume.old)
+        → contains_key (V.files volume.new) (body_file log.old) ≡ true }
 
     // What a crash may leave.
     ensures kept { IsTrue (V.tells volume.old)
@@ -136,6 +145,8 @@ pub(crate) fn append_newest<V: Volume>(
         ≡ env_trees log.old.file (V.files volume.old) roots }
     ensures count { IsTrue (V.tells volume.old)
         → log_file_count (V.files volume.new) ≡ log_file_count (V.files volume.old) }
+    ensures body_stays { IsTrue (V.tells volume.old)
+        → contains_key (V.files volume.new) (body_file log.old) ≡ true }
 
     // What a crash may leave.
     ensures kept { IsTrue (V.tells volume.old)
@@ -220,11 +231,13 @@ pub(crate) fn append_next<V: Volume>(
     ensures old_trees { IsTrue (V.tells volume.old) → (roots : Roots)
         → env_trees log.old.file (V.files volume.new) roots
         ≡ env_trees log.old.file (V.files volume.old) roots }
-    ensures next_known { IsTrue (V.tells volume.old) → ¬ (IsErrOf result LogError.Device)
+    ensures next_known { IsTrue (V.tells volume.old)
         → has_next.new ≡ has_pair (V.files volume.new) (log.old.file + 1) }
-    ensures count { IsTrue (V.tells volume.old) → ¬ (IsErrOf result LogError.Device)
+    ensures count { IsTrue (V.tells volume.old)
         → log_file_count (V.files volume.new) + (if has_next.old then 1 else 0)
         ≡ log_file_count (V.files volume.old) + (if has_next.new then 1 else 0) }
+    ensures body_stays { IsTrue (V.tells volume.old)
+        → contains_key (V.files volume.new) (body_file log.old) ≡ true }
 
     // What a crash may leave.
     ensures kept { IsTrue (V.tells volume.old)

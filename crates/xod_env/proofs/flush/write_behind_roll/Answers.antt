@@ -39,16 +39,14 @@ returns-in-Ok-append_next-clause-writes g c told =
     writes_then g.V.Volume.files g.V.Volume.moment g.V.Volume.may_leave c.args.log.now c.args.count.now c.args.block.now c.args.back before mid
     (reads.same told) (reads.rests told) c.append_next.new.log c.count_next.result now _
     (record {
-      opened = λ roots commit new_roots new_commit opened next. record {
-        at = ok.at told1 roots commit new_roots new_commit opened.at next;
-        counted =
-            let few = count_fits (g.V.Volume.files mid) in
-            let own = opened.counted in
-            counted_is c.count_next.result c.args.count.now (log_file_count (g.V.Volume.files mid)) (log_file_count (g.V.Volume.files now)) _ _
-            (c.count_next.ensures c.append_next.ensures.never_lost (omega (arith, few, own))) (c.append_next.ensures.count told1 (λ bad. search rules)) own;
-      };
-      kept_open = λ roots commit opened err fine. absurd cc;
-      new_trees = λ roots commit new_roots new_commit at next. ok.new_trees told1 roots commit new_roots new_commit at next;
+      at = ok.at told1;
+      at_kept = λ roots commit at err fine. absurd cc;
+      count = λ own.
+          let few = count_fits (g.V.Volume.files mid) in
+          counted_is c.count_next.result c.args.count.now (log_file_count (g.V.Volume.files mid)) (log_file_count (g.V.Volume.files now)) _ _
+          (c.count_next.ensures c.append_next.ensures.never_lost (omega (arith, few, own))) (c.append_next.ensures.count told1) own;
+      body_stays = λ there. c.append_next.ensures.body_stays told1;
+      new_trees = ok.new_trees told1;
       old_trees = λ roots commit at. c.append_next.ensures.old_trees told1 roots;
       kept = c.append_next.ensures.kept told1;
       crash = c.append_next.ensures.crash told1;
@@ -65,15 +63,13 @@ returns-in-Err-clause-writes g c told =
     writes_then g.V.Volume.files g.V.Volume.moment g.V.Volume.may_leave c.args.log.now c.args.count.now c.args.block.now c.args.back before mid
     (reads.same told) (reads.rests told) c.append_next.new.log c.count_next-in-Err.result now _
     (record {
-      opened = λ roots commit new_roots new_commit opened next. tt;
-      kept_open = λ roots commit opened err fine. record {
-        at = c.append_next.ensures.at_kept told1 roots commit opened.at (search rules) (λ bad. fine (sym c.in-Err.is ∙ bad));
-        counted =
-            let few = count_fits (g.V.Volume.files mid) in
-            let own = opened.counted in
-            counted_is c.count_next-in-Err.result c.args.count.now (log_file_count (g.V.Volume.files mid)) (log_file_count (g.V.Volume.files now)) _ _
-            (c.count_next-in-Err.ensures c.append_next.ensures.never_lost (omega (arith, few, own))) (c.append_next.ensures.count told1 (λ bad. fine (sym c.in-Err.is ∙ bad))) own;
-      };
+      at = λ roots commit new_roots new_commit at next. tt;
+      at_kept = λ roots commit at err fine. c.append_next.ensures.at_kept told1 roots commit at (search rules) (λ bad. fine (sym c.in-Err.is ∙ bad));
+      count = λ own.
+          let few = count_fits (g.V.Volume.files mid) in
+          counted_is c.count_next-in-Err.result c.args.count.now (log_file_count (g.V.Volume.files mid)) (log_file_count (g.V.Volume.files now)) _ _
+          (c.count_next-in-Err.ensures c.append_next.ensures.never_lost (omega (arith, few, own))) (c.append_next.ensures.count told1) own;
+      body_stays = λ there. c.append_next.ensures.body_stays told1;
       new_trees = λ roots commit new_roots new_commit at next. tt;
       old_trees = λ roots commit at. c.append_next.ensures.old_trees told1 roots;
       kept = c.append_next.ensures.kept told1;

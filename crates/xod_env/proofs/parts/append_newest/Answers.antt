@@ -11,6 +11,7 @@ use Rattle.xod_env.specs.Envs.{IsAt, IsSteady, env_trees}
 use Rattle.xod_env.proofs.Answers.{by-error}
 use Rattle.xod_env.proofs.Appended.{at-next, at-still, next-steady, since-append, steady-still, torn-pairs, trees-next}
 use Rattle.xod_env.proofs.Growing.{grown-trees}
+use Rattle.xod_env.proofs.Lasting.{pair_body}
 use Rattle.xod_env.proofs.PairCounts.{count-same}
 use Rattle.xod_env.proofs.parts.append_newest.Given.{Over}
 use Rattle.xod_env.proofs.parts.append_newest.Goals as goal
@@ -112,6 +113,16 @@ returns-clause-count g c told =
     let G = g.V.Volume.files c.append_block.new.volume in
     let count = length c.args.block.now in
     count-same F G (torn-pairs log count F G (ap (λ (x : Content). is_some x) (c.requires.stands told).has_body) (torn log count c.requires.not_due F G (c.append_block.ensures.reads told)))
+
+pub returns-clause-body_stays : goal.returns-clause-body_stays
+returns-clause-body_stays g c told =
+    let log = c.args.log.now in
+    let F = g.V.Volume.files c.args.volume.now in
+    let G = g.V.Volume.files c.append_block.new.volume in
+    let count = length c.args.block.now in
+    let stands = c.requires.stands told in
+    pair_body log F G _ stands
+    (torn-pairs log count F G (ap (λ (x : Content). is_some x) stands.has_body) (torn log count c.requires.not_due F G (c.append_block.ensures.reads told)) log.file)
 
 pub returns-clause-crash : goal.returns-clause-crash
 returns-clause-crash g c told roots commit at steady =

@@ -16,6 +16,7 @@ use Rattle.xod_root.specs.Roots.{Roots}
 use Rattle.xod_env.specs.Envs.{IsAt, IsSteady, env_trees, log_file_count, newest_stored}
 use Rattle.xod_env.proofs.Answers.{by-error}
 use Rattle.xod_env.proofs.Appended.{at-still, steady-still, torn-pairs}
+use Rattle.xod_env.proofs.Lasting.{roll_body}
 use Rattle.xod_env.proofs.Nexting.{count-next, next-log, next-not-due, next-over, prepared-at, prepared-steady, roll-pairs, rolled-then}
 use Rattle.xod_env.proofs.PairCounts.{count-same}
 use Rattle.xod_env.proofs.Rolled.{at-rolled, roll-trees, rolled-steady, since-roll, trees-rolled}
@@ -369,8 +370,7 @@ returns-clause-steady g c told roots commit at steady not_device =
     (λ other not_body not_ends. c.append_block.ensures.settled (c.prepare_next.ensures.stays.tells ∙ told) (fine2 g c told) other (λ e. omega (arith, e, next_file, not_ends)) (λ e. omega (arith, e, file, not_body)) (was other)))
 
 pub returns-in_err-next-clause-count : goal.returns-in_err-next-clause-count
-returns-in_err-next-clause-count g c told not_device =
-    let fine : ¬ (IsErrOf c.prepare_next.result log_error.Device) = λ bad. search rules in
+returns-in_err-next-clause-count g c told =
     let log = c.args.log.now in
     let F = g.V.Volume.files c.args.volume.now in
     let M = g.V.Volume.files c.prepare_next.new.volume in
@@ -378,7 +378,7 @@ returns-in_err-next-clause-count g c told not_device =
     let small : c.file-file.result ≤ last_file = search rules in
     elim (at-last log.file (subst (λ (n : ℕ). n ≤ last_file) c.file-file.ensures small)) [
       | inl room ↦ count-next F M (log.file + 1) (omega (arith, room)) (roll-pairs log (bytes_of F (body_file log)) (bytes_of F (ends_file log)) F M (ap (λ (x : Content). is_some x) stands.has_body) (ap (λ (x : Content). is_some x) stands.has_ends) (c.prepare_next.ensures.reads told))
-          c.args.has_next.now c.prepare_next.new.has_next (c.requires.next_known told) (c.prepare_next.ensures.next_known told fine) c.prepare_next.ensures.never_lost
+          c.args.has_next.now c.prepare_next.new.has_next (c.requires.next_known told) (c.prepare_next.ensures.next_known told) c.prepare_next.ensures.never_lost
       | inr last ↦
           let bad = is-spent c.prepare_next.result last_file (c.prepare_next.ensures.spent.0 last) in
           ap (λ v. log_file_count (g.V.Volume.files v) + (if c.args.has_next.now then 1 else 0)) (c.prepare_next.ensures.untouched last_file bad).1
@@ -386,7 +386,7 @@ returns-in_err-next-clause-count g c told not_device =
     ]
 
 pub returns-in_err-append_block-clause-count : goal.returns-in_err-append_block-clause-count
-returns-in_err-append_block-clause-count g c told not_device =
+returns-in_err-append_block-clause-count g c told =
     let log = c.args.log.now in
     let next = c.in_ok-next.next in
     let F = g.V.Volume.files c.args.volume.now in
@@ -397,16 +397,15 @@ returns-in_err-append_block-clause-count g c told not_device =
     let small : c.file-file.result ≤ last_file = search rules in
     let low : log.file ≤ last_file = subst (λ (n : ℕ). n ≤ last_file) c.file-file.ensures small in
     let apart = has-room c.prepare_next.result next log.file (c.in_ok-next.was {u = tt}) c.prepare_next.ensures.spent.0 in
-    let fine = ok-fine c.prepare_next.result next log_error.Device (c.in_ok-next.was {u = tt}) in
     let not_due = next-not-due log next is c.requires.room in
     let reads = appends_not_due next (bytes_of M (body_file next)) (bytes_of M (ends_file next)) (length c.args.block.now) not_due M G (c.append_block.ensures.reads (c.prepare_next.ensures.stays.tells ∙ told)) in
     let there = c.in_ok-next.ensures.next_stands told in
     ap (λ (n : ℕ). n + (if c.args.has_next.now then 1 else 0)) (count-same M G (torn-pairs next (length c.args.block.now) M G (ap (λ (x : Content). is_some x) there.has_body) reads))
     ∙ count-next F M (log.file + 1) (omega (arith, low, apart)) (roll-pairs log (bytes_of F (body_file log)) (bytes_of F (ends_file log)) F M (ap (λ (x : Content). is_some x) stands.has_body) (ap (λ (x : Content). is_some x) stands.has_ends) (c.prepare_next.ensures.reads told))
-    c.args.has_next.now c.prepare_next.new.has_next (c.requires.next_known told) (c.prepare_next.ensures.next_known told fine) c.prepare_next.ensures.never_lost
+    c.args.has_next.now c.prepare_next.new.has_next (c.requires.next_known told) (c.prepare_next.ensures.next_known told) c.prepare_next.ensures.never_lost
 
 pub returns-clause-count : goal.returns-clause-count
-returns-clause-count g c told not_device =
+returns-clause-count g c told =
     let log = c.args.log.now in
     let next = c.in_ok-next.next in
     let F = g.V.Volume.files c.args.volume.now in
@@ -417,10 +416,37 @@ returns-clause-count g c told not_device =
     let small : c.file-file.result ≤ last_file = search rules in
     let low : log.file ≤ last_file = subst (λ (n : ℕ). n ≤ last_file) c.file-file.ensures small in
     let apart = has-room c.prepare_next.result next log.file (c.in_ok-next.was {u = tt}) c.prepare_next.ensures.spent.0 in
-    let fine = ok-fine c.prepare_next.result next log_error.Device (c.in_ok-next.was {u = tt}) in
     let not_due = next-not-due log next is c.requires.room in
     let reads = appends_not_due next (bytes_of M (body_file next)) (bytes_of M (ends_file next)) (length c.args.block.now) not_due M G (c.append_block.ensures.reads (c.prepare_next.ensures.stays.tells ∙ told)) in
     let there = c.in_ok-next.ensures.next_stands told in
     ap (λ (n : ℕ). n + (if c.args.has_next.now then 1 else 0)) (count-same M G (torn-pairs next (length c.args.block.now) M G (ap (λ (x : Content). is_some x) there.has_body) reads))
     ∙ count-next F M (log.file + 1) (omega (arith, low, apart)) (roll-pairs log (bytes_of F (body_file log)) (bytes_of F (ends_file log)) F M (ap (λ (x : Content). is_some x) stands.has_body) (ap (λ (x : Content). is_some x) stands.has_ends) (c.prepare_next.ensures.reads told))
-    c.args.has_next.now c.prepare_next.new.has_next (c.requires.next_known told) (c.prepare_next.ensures.next_known told fine) c.prepare_next.ensures.never_lost
+    c.args.has_next.now c.prepare_next.new.has_next (c.requires.next_known told) (c.prepare_next.ensures.next_known told) c.prepare_next.ensures.never_lost
+
+pub returns-in_err-next-clause-body_stays : goal.returns-in_err-next-clause-body_stays
+returns-in_err-next-clause-body_stays g c told =
+    roll_body c.args.log.now (g.V.Volume.files c.args.volume.now) (g.V.Volume.files c.prepare_next.new.volume) _ (c.requires.stands told) (c.prepare_next.ensures.reads told)
+
+pub returns-in_err-append_block-clause-body_stays : goal.returns-in_err-append_block-clause-body_stays
+returns-in_err-append_block-clause-body_stays g c told =
+    let log = c.args.log.now in
+    let next = c.in_ok-next.next in
+    let F = g.V.Volume.files c.args.volume.now in
+    let M = g.V.Volume.files c.prepare_next.new.volume in
+    let G = g.V.Volume.files c.append_block.new.volume in
+    let is : next ≡ rolled_log log = c.in_ok-next.ensures.next in
+    roll_body log F G _ (c.requires.stands told)
+    (then_append_reads log next is (next-not-due log next is c.requires.room) (length c.args.block.now) (bytes_of M (body_file next)) (bytes_of M (ends_file next)) (bytes_of F (body_file log)) (bytes_of F (ends_file log)) F M G
+    (c.in_ok-next.ensures.next_pair told) (c.prepare_next.ensures.reads told) (c.append_block.ensures.reads (c.prepare_next.ensures.stays.tells ∙ told)))
+
+pub returns-clause-body_stays : goal.returns-clause-body_stays
+returns-clause-body_stays g c told =
+    let log = c.args.log.now in
+    let next = c.in_ok-next.next in
+    let F = g.V.Volume.files c.args.volume.now in
+    let M = g.V.Volume.files c.prepare_next.new.volume in
+    let G = g.V.Volume.files c.append_block.new.volume in
+    let is : next ≡ rolled_log log = c.in_ok-next.ensures.next in
+    roll_body log F G _ (c.requires.stands told)
+    (then_append_reads log next is (next-not-due log next is c.requires.room) (length c.args.block.now) (bytes_of M (body_file next)) (bytes_of M (ends_file next)) (bytes_of F (body_file log)) (bytes_of F (ends_file log)) F M G
+    (c.in_ok-next.ensures.next_pair told) (c.prepare_next.ensures.reads told) (c.append_block.ensures.reads (c.prepare_next.ensures.stays.tells ∙ told)))

@@ -3,12 +3,13 @@ use Rattle.std.proofs.Common.{rules, ◌≡◌, ◌∙◌, Some, is_ok, is_some,
 use Rattle.xod_log.specs.declared.error.LogError.{LogError}
 use Rattle.xod_log.specs.Standing.{body_file, ends_file, sealed_log}
 use Rattle.xod_recover.specs.Images.{AllStore}
-use Rattle.xod_recover.specs.Stores.{Stored}
+use Rattle.xod_recover.specs.Stores.{Stored, stored_in}
 use Rattle.xod_volume.specs.Files.{Content, Files, bytes_of}
 use Rattle.xod_env.specs.Envs.{IsAt, IsSteady}
 use Rattle.xod_snapshot.specs.Snapshots.{snapshot_trees}
 use Rattle.xod_env.proofs.Answers.{not-err, on-ok}
-use Rattle.xod_env.proofs.RestStores.{steady-settled, steady-stored}
+use Rattle.xod_env.proofs.Lasting.{seal_body}
+use Rattle.xod_env.proofs.RestStores.{reads-stored, steady-settled, steady-stored}
 use Rattle.xod_env.proofs.Sealed.{at-either, either-answered, either-placed, newest-either, now-sealed, pair-ends, seal-front, since-seal, steady-either}
 use Rattle.xod_env.proofs.Sealing.{same_bodies, same_count}
 use Rattle.xod_env.proofs.parts.seal_newest.Goals as goal
@@ -51,6 +52,25 @@ returns-clause-count g c told =
     let G = g.V.Volume.files c.seal.new.volume in
     same_count log.file F G (c.seal.ensures.others told) (ap (λ (x : Content). is_some x) (c.requires.stands told).has_ends)
     (pair-ends log (bytes_of F (body_file log)) (bytes_of F (ends_file log)) F G (c.seal.ensures.reads told))
+
+pub returns-clause-body_stays : goal.returns-clause-body_stays
+returns-clause-body_stays g c told =
+    seal_body c.args.log.now (g.V.Volume.files c.args.volume.now) (g.V.Volume.files c.seal.new.volume) _ (c.requires.stands told) (c.seal.ensures.others told)
+
+pub returns-clause-stores : goal.returns-clause-stores
+returns-clause-stores g c told roots commit at placed = on-ok c.seal.result _ (λ ok.
+    let log = c.args.log.now in
+    let now = c.seal.new.self in
+    let F = g.V.Volume.files c.args.volume.now in
+    let v1 = c.seal.new.volume in
+    let G = g.V.Volume.files v1 in
+    let I = g.V.Volume.may_leave v1 (g.V.Volume.moment v1) in
+    let is : now ≡ sealed_log log = c.seal.ensures.log ∙ cond-true (is_ok c.seal.result) (sealed_log log) log ok in
+    let either = either-answered (is_ok c.seal.result) log now c.seal.ensures.log in
+    let fine = not-err c.seal.result LogError.Device ok in
+    let here : IsAt now roots commit G I = returns-clause-at g c told roots commit at fine in
+    subst (λ (s : Stored). stored_in G ≡ Some s) (newest-either log now roots commit F G either (c.seal.ensures.others told))
+    (reads-stored now roots commit G I here (now-sealed log now is) (either-placed log now roots either placed)))
 
 pub returns-clause-durable : goal.returns-clause-durable
 returns-clause-durable g c told roots commit at placed steady = on-ok c.seal.result _ (λ ok.

@@ -1,4 +1,4 @@
-use Rattle.std.proofs.Common.{rules, Some, refl, inl}
+use Rattle.std.proofs.Common.{Some, refl, inl}
 use Rattle.xod_log.proofs.CallerLemmas.{rested}
 use Rattle.xod_recover.specs.Images.{Stores}
 use Rattle.xod_env.specs.Envs.{newest_stored}
@@ -18,6 +18,3 @@ pub returns-then-self-2-clause-crash : goal.returns-then-self-2-clause-crash
 returns-then-self-2-clause-crash g c told whole steady =
     let was = c.args.self.now in
     rested (g.V.Volume.moment was.volume) (g.V.Volume.may_leave was.volume) (Stores (Some (newest_stored was.log.file (g.V.Volume.files was.volume) was.roots was.commit))) (λ left is. inl refl)
-
-pub returns-in_err-commit_changes-clause-steady : goal.returns-in_err-commit_changes-clause-steady
-returns-in_err-commit_changes-clause-steady g c told steady fine = c.commit_changes.ensures.steady told steady (λ bad. fine (search rules))

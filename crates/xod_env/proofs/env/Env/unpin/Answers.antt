@@ -1,5 +1,10 @@
-use Rattle.std.proofs.Common.{IsTrue}
-use Rattle.xod_env.proofs.Resting.{open_over}
+use Rattle.std.proofs.Common.{IsTrue, ◌∙◌, ap, sym}
+use Rattle.std.specs.FinMap.{contains_key}
+use Rattle.xod_log.specs.Ends.{body_of}
+use Rattle.xod_log.specs.Standing.{last_file}
+use Rattle.xod_volume.specs.Files.{Files}
+use Rattle.xod_env.specs.Envs.{log_file_count}
+use Rattle.xod_env.proofs.Resting.{at_over}
 use Rattle.xod_env.proofs.env.Env.unpin.Goals as goal
 
 pub invariant_of-self : goal.invariant_of-self
@@ -8,8 +13,14 @@ invariant_of-self g c =
     record {
       opened = λ whole told1.
           let told : IsTrue (g.V.Volume.tells was.volume) = rw c.take_back.ensures.tells_same at told1 in
-          open_over was.log (g.V.Volume.files was.volume) (g.V.Volume.files c.take_back.new.self)
+          at_over was.log (g.V.Volume.files was.volume) (g.V.Volume.files c.take_back.new.self)
           (g.V.Volume.moment was.volume) (g.V.Volume.moment c.take_back.new.self) (g.V.Volume.may_leave was.volume) (g.V.Volume.may_leave c.take_back.new.self)
-          (c.take_back.ensures.same told) (c.take_back.ensures.rests told) was.roots was.commit was.file_count (was.opened whole told);
+          (c.take_back.ensures.same told) (c.take_back.ensures.rests told) was.roots was.commit (was.opened whole told);
+      counted = λ told1.
+          let told : IsTrue (g.V.Volume.tells was.volume) = rw c.take_back.ensures.tells_same at told1 in
+          was.counted told ∙ ap log_file_count (sym (c.take_back.ensures.same told));
       placed = was.placed;
+      last = λ told1 is.
+          let told : IsTrue (g.V.Volume.tells was.volume) = rw c.take_back.ensures.tells_same at told1 in
+          ap (λ (f : Files). contains_key f (body_of last_file)) (c.take_back.ensures.same told) ∙ was.last told is;
     }
