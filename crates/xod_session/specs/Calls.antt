@@ -4,7 +4,7 @@ use Rattle.xod_base.specs.declared.causes.Cause.{Cause}
 use Rattle.xod_base.specs.declared.query.Mode.{Mode}
 use Rattle.xod_lang.specs.declared.script.Turned.TheVariants as turn
 use Rattle.xod_journal.specs.declared.journal.JournalEntry.{JournalEntry}
-use Rattle.xod_journal.specs.declared.journal.Origin.TheVariants.{Run}
+use Rattle.xod_journal.specs.declared.journal.Origin.TheVariants.{Left, Run}
 use Rattle.xod_journal.specs.declared.journal.Step.{Step}
 use Rattle.xod_journal.specs.declared.journal.Step.TheVariants as step
 use Rattle.xod_journal.specs.Seats.{busy_of, entered}
@@ -68,9 +68,10 @@ pub record IsSameSession {Open : Type 0} (old new : Session Open) : Type 0 where
   pub script : new.course.script ≡ old.course.script
 
 -- A session has answered its private statements up to the next shared step, or those before a line, or has met one that
--- could not be answered.
+-- could not be answered. The place behind its last shared step is the same.
 pub record PreparesTo {Open : Type 0} (until : Option ℕ) (old new : Session Open) : Type 0 where
   pub same : IsSameSession old new
+  pub since : since_place new.course ≡ since_place old.course
   pub stopped : new.course.place.stopped ≡ old.course.place.stopped
   pub course : old.course.place.stopped ≡ false → new.met ≡ None → new.course ≡ skipped old.course (count_until until old.course.place.rest)
   pub prepared : until ≡ None → IsPrepared new
@@ -150,7 +151,15 @@ pub record IsLeft (course : CourseView) (line : ℕ) : Type 0 where
   pub open_is : course.is_open ≡ true
   pub first : first_line course.place.rest ≡ Some line
 
--- A session was ended: where it had no transaction open, the space is as it was, and else its journal has one entry more.
+-- A transaction was given back with a stop of its actor, who was given up: the entry is the journal's last. The line is
+-- that of the next statement, and the cause means nothing.
+pub record GivesBack (old new : List JournalEntry) (actor : ℕ) : Type 0 where
+  pub line : ℕ
+  pub reason : Cause
+  pub entry : new ≡ entered old actor (step.Stop line reason Left)
+
+-- A session was ended: where it had no transaction open, the space is as it was, and else that was given back.
 pub record Finishes {Open : Type 0} (old new : SpaceView) (session : Session Open) : Type 0 where
   pub closed : session.course.is_open ≡ false → new ≡ old
+  pub given : session.course.is_open ≡ true → GivesBack old.journal new.journal session.actor
   pub grows : Grows old.journal new.journal session.actor

@@ -44,7 +44,7 @@ pub enum Progress {
     Finished,
 }
 
-/// A session. An open transaction that is not `Drop` has to be given back, by `finish`.
+/// A session. An open transaction that is not `Drop` has to be given back, by `finish`; without one `let_go` serves too.
 #[derive(Drop)]
 pub struct Session<O> {
     pub(crate) actor: u32,
@@ -86,6 +86,7 @@ impl<O: Local> Session<O> {
         ensures actor { IfOk result (λ session. session.actor ≡ actor) }
         ensures script { IfOk result (λ session. session.course.script ≡ script.statements) }
         ensures fresh { IfOk result IsFresh }
+        ensures closed { IfOk result (λ session. session.course.is_open ≡ false) }
     {
         let SessionScript {
             name: _,
@@ -289,6 +290,20 @@ impl<O: Local> Session<O> {
         }
         let statement = self.course.rest().first()?;
         Some(statement.line)
+    }
+
+    /// Lets a session go that has no transaction open.
+    pub fn let_go(self)
+        requires { self.course.is_open ≡ false }
+    {
+        let Session {
+            actor: _,
+            course: _,
+            said: _,
+            txn,
+            met: _,
+        } = self;
+        let None = txn else { unreachable!() };
     }
 
     /// Ends a session, and hands out its printed lines. An open transaction is given back with a stop at the next

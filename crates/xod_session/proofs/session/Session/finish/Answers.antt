@@ -33,10 +33,12 @@ returns-clause-finishes g c =
     elim c.match-left.branch [
       | in-Some w ↦ record {
         closed = λ closed. absurd (false≢true (sym closed ∙ w.in-Some.ensures.line.open_is));
+        given = λ is_open. record { line = w.in-Some.line; reason = cause.Memory; entry = ap (λ s. (g.S.Space.view s).journal) w.space-is ∙ w.stop.ensures.halts.entry };
         grows = record { steps = step.Stop w.in-Some.line cause.Memory Left ∷ []; grown = ap (λ s. (g.S.Space.view s).journal) w.space-is ∙ w.stop.ensures.halts.entry };
       }
       | in_default w ↦ record {
         closed = λ closed. ap (λ s. g.S.Space.view s) w.space-is;
+        given = λ is_open. absurd (false≢true (sym (c.left.ensures.none w.in_default.is) ∙ is_open));
         grows = record { steps = []; grown = ap (λ s. (g.S.Space.view s).journal) w.space-is ∙ sym (append-nil _) };
       }
     ]

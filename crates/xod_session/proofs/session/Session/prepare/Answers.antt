@@ -2,7 +2,7 @@ use mathlib.Core.Path.{transport}
 use Rattle.std.proofs.Common.{◌≡◌, ◌∙◌, Some, refl, ap, subst, sym, arith, drop}
 use Rattle.std.specs.Prelude.{is_some}
 use Rattle.xod_session.specs.Answers.{AnswersRow, count_until}
-use Rattle.xod_session.specs.Courses.{CourseView, IsReady, skipped}
+use Rattle.xod_session.specs.Courses.{CourseView, IsReady, since_place, skipped}
 use Rattle.xod_session.specs.Seats.{PlaysAs, view_of}
 use Rattle.xod_session.specs.Sessions.{private_count}
 use Rattle.xod_session.proofs.CourseLemmas.{closed-ready}
@@ -15,7 +15,7 @@ pub returns-in_default-clause-prepares : goal.returns-in_default-clause-prepares
 returns-in_default-clause-prepares g c =
     let course = c.args.self.now.course in
     let ready : IsReady course = closed-ready course c.is_stopped.ensures.course (sym c.is_stopped.ensures.stopped ∙ c.if-is_stopped.false) (sym c.args.self.now.held ∙ ap is_some c.in_default.is) in
-    record { same = record { actor = refl; script = refl }; stopped = refl; course = λ going free. rests course ready c.args.until; prepared = λ is going free. ready }
+    record { same = record { actor = refl; script = refl }; since = refl; stopped = refl; course = λ going free. rests course ready c.args.until; prepared = λ is going free. ready }
 
 pub skip-requires-clause-private : goal.skip-requires-clause-private
 skip-requires-clause-private g c = omega (arith, c.answer_row-row.ensures.within, until-within c.args.until c.rest.result.now, ap private_count c.rest.ensures.rest)
@@ -42,6 +42,7 @@ returns-clause-prepares g c =
     let r = row g c in
     record {
       same = record { actor = refl; script = ap (λ (v : CourseView). v.script) c.skip.ensures };
+      since = ap since_place c.skip.ensures;
       stopped = ap (λ (v : CourseView). v.place.stopped) c.skip.ensures;
       course = λ going free. c.skip.ensures ∙ ap (skipped course) (reaches c.args.until rest _ _ c.answer_row-row.result r.within r.halted free).0;
       prepared = λ is going free. ap (λ (v : CourseView). private_count v.place.rest) c.skip.ensures
