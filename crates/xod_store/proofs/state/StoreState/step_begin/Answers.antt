@@ -1,0 +1,36 @@
+use Rattle.std.proofs.Common.{◌≡◌, ◌∙◌, refl, sym, ap, arith, None, ℕ}
+use Rattle.std.specs.Prelude.{vec_len, vec_capacity}
+use Rattle.std.specs.FinMap.{insert}
+use Rattle.xod_journal.specs.Seats.{entered}
+use Rattle.xod_journal.specs.declared.journal.Step.TheVariants as step
+use Rattle.xod_store.proofs.Booked.{grew, keeps-begun, keeps-same}
+use Rattle.xod_store.proofs.Keeping.{entered-facts, rested}
+use Rattle.xod_store.proofs.state.StoreState.step_begin.Goals as goal
+
+pub invariant_of-self-in-Break-branch-2 : goal.invariant_of-self-in-Break-branch-2
+invariant_of-self-in-Break-branch-2 g c =
+    let store = c.args.self.now in
+    let made = c.make_room.ensures in
+    let now = rested c.pin_newest.ensures.files c.pin_newest.ensures.newest c.pin_newest.ensures.log c.pin_newest.ensures.broken_as_before c.pin_newest.ensures.steady (record { accounted = store.accounted; booked = store.booked; told = store.told; safe = store.safe }) made.items made.len made.grows in
+    record { tells = c.pin_newest.ensures.files.tells_same ∙ store.tells; accounted = now.accounted; booked = now.booked; told = now.told; safe = now.safe }
+
+pub invariant_of-self-in-Err : goal.invariant_of-self-in-Err
+invariant_of-self-in-Err g c =
+    let store = c.args.self.now in
+    let made = c.make_room.ensures in
+    let there = rested c.pin_newest.ensures.files c.pin_newest.ensures.newest c.pin_newest.ensures.log c.pin_newest.ensures.broken_as_before c.pin_newest.ensures.steady (record { accounted = store.accounted; booked = store.booked; told = store.told; safe = store.safe }) made.items made.len made.grows in
+    let same = c.in-Err.ensures in
+    let now = rested c.unpin.ensures.files c.unpin.ensures.newest c.unpin.ensures.log c.unpin.ensures.broken_as_before c.unpin.ensures.steady there {room2 = vec_capacity c.make_room.new.items} refl refl (omega arith) in
+    record { tells = c.unpin.ensures.files.tells_same ∙ c.pin_newest.ensures.files.tells_same ∙ store.tells; accounted = now.accounted; booked = keeps-same _ _ _ _ _ _ _ now.booked _ same; told = now.told; safe = now.safe }
+
+pub invariant_of-self-2 : goal.invariant_of-self-2
+invariant_of-self-2 g c =
+    let store = c.args.self.now in
+    let made = c.make_room.ensures in
+    let put = c.enter.ensures in
+    let there = rested c.pin_newest.ensures.files c.pin_newest.ensures.newest c.pin_newest.ensures.log c.pin_newest.ensures.broken_as_before c.pin_newest.ensures.steady (record { accounted = store.accounted; booked = store.booked; told = store.told; safe = store.safe }) {room2 = vec_capacity store.journal} refl refl (omega arith) in
+    let now = entered-facts there c.args.actor (step.Begin c.args.mode) refl refl (λ s. refl) (λ n. refl) (λ n rows. refl) (put.items ∙ ap (λ j. entered j c.args.actor (step.Begin c.args.mode)) made.items)
+    (keeps-begun _ _ _ _ _ _ _ there.booked c.args.actor None c.requires _ _ _ c.args.mode _ refl (sym c.holder.ensures ∙ c.in_default.is)
+    (c.in_default-set.ensures ∙ ap (λ (b : ℕ). insert store.open_txns c.args.actor (record { mode = c.args.mode; base = b })) (c.in_ok-snapshot.ensures.version ∙ sym c.pin_newest.ensures.newest.commit))
+    (grew _ _ _ _ _ _ _ _ _ _ (step.Begin c.args.mode) made.items made.len c.in_ok-make_room.ensures.room put.items put.len put.capacity)) in
+    record { tells = c.pin_newest.ensures.files.tells_same ∙ store.tells; accounted = now.accounted; booked = now.booked; told = now.told; safe = now.safe }

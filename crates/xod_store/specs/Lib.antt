@@ -1,0 +1,9 @@
+pub mod Causes
+pub mod Facts
+pub mod Flushed
+pub mod Images
+pub mod Parts
+pub mod Pins
+pub mod Starts
+pub mod StoreLaw
+pub mod Views
