@@ -1,0 +1,16 @@
+pub mod AlikeLemmas
+pub mod CallerLemmas
+pub mod CauseLemmas
+pub mod EntryLemmas
+pub mod FinishLemmas
+pub mod FollowLemmas
+pub mod FrontLemmas
+pub mod LeftLemmas
+pub mod NamingLemmas
+pub mod OrderLemmas
+pub mod PlayLemmas
+pub mod PlayerLemmas
+pub mod ReplayLemmas
+pub mod RoundLemmas
+pub mod SeatedLemmas
+pub mod ToldLemmas
