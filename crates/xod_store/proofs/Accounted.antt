@@ -1,7 +1,7 @@
 -- What a call leaves of what a store has of its count.
 use Rattle.std.proofs.Common.{◌≡◌, ◌≤◌, ℕ, ◌+◌, Bool, true, false, cond, List, [], ◌∷◌, ◌⊎◌, inl, inr, refl, sym, ap, subst, ◌∙◌, arith, length}
-use Rattle.std.specs.Prelude.{◌||◌, ◌&&◌, IsTrue}
-use Rattle.std.specs.List.{filter, list_any}
+use Rattle.std.specs.Prelude.{◌||◌, IsTrue}
+use Rattle.std.specs.List.{filter}
 use Rattle.std.proofs.lemmas.Bool.{false≢true}
 use Rattle.std.proofs.lemmas.List.{length-append}
 use Rattle.std.proofs.lemmas.List.Elements.{filter-append}
@@ -15,7 +15,7 @@ use Rattle.xod_journal.specs.declared.journal.Origin.TheVariants as origin
 use Rattle.xod_journal.specs.declared.journal.Step.{Step}
 use Rattle.xod_journal.specs.declared.journal.Step.TheVariants as step
 use Rattle.xod_journal.specs.Seats.{entered}
-use Rattle.xod_journal.specs.Spaces.{IsCounted, IsMet, SpaceView, device_stops, is_device_stop, is_run}
+use Rattle.xod_journal.specs.Spaces.{IsCounted, IsMet, SpaceView, device_stops, is_device_stop}
 use Rattle.xod_journal.proofs.CallerLemmas.{device_stops-entered}
 use Rattle.xod_store.specs.Parts.{IsAccounted, has_stop_for, is_broken_cause, is_spent_cause, is_stop, is_stop_for}
 

@@ -1,5 +1,5 @@
 -- What a step leaves of what a store has of its books.
-use Rattle.std.proofs.Common.{◌≡◌, ◌≤◌, ◌<◌, ℕ, ◌+◌, Bool, true, false, cond, List, [], ◌∷◌, Option, Some, None, refl, sym, ap, subst, ◌∙◌, arith, le-leb}
+use Rattle.std.proofs.Common.{◌≡◌, ◌≤◌, ◌<◌, ℕ, ◌+◌, Bool, true, false, cond, List, [], Option, Some, None, refl, sym, ap, subst, ◌∙◌, arith, le-leb}
 use Rattle.std.specs.Prelude.{◌&&◌, is_some, nat_le, option_and_then, option_map}
 use Rattle.std.specs.List.{list_all}
 use Rattle.std.specs.Ordering.{nat_cmp}
@@ -19,7 +19,7 @@ use Rattle.xod_journal.specs.Books.{Books, booked, booked_in, committed, flush_a
 use Rattle.xod_journal.specs.Seats.{Seat, books_after, busy_of, entered, is_over, seat_in, seat_of}
 use Rattle.xod_journal.specs.Standing.{Newest, newest_after, newest_step}
 use Rattle.xod_journal.specs.Txns.{OpenTxn, pinned_of}
-use Rattle.xod_journal.proofs.CallerLemmas.{all_booked-append, newest_after-append, same_version-refl, seat-going, seat-open}
+use Rattle.xod_journal.proofs.CallerLemmas.{all_booked-append, newest_after-append, same_version-refl}
 use Rattle.xod_store.specs.Parts.{IsBooked, is_seated, is_stop, kept_in}
 
 -- The journal has one entry more, and still room for a stop of each session.

@@ -1,14 +1,11 @@
 -- What a crash leaves of a store that was closed.
-use Rattle.std.proofs.Common.{◌≡◌, ◌∙◌, ℕ, Bool, true, false, Option, Some, None, refl, sym, ap, subst}
-use Rattle.std.proofs.lemmas.Bool.{false≢true}
-use Rattle.std.specs.Prelude.{Result, Ok, Err, OnOk, IsErrOf, IsSome, option_and_then, option_map, unwrap_or}
-use Rattle.xod_base.specs.Rows.{RowsValue, no_rows}
-use Rattle.xod_estxn.specs.Txns.{base_rows}
+use Rattle.std.proofs.Common.{◌≡◌, ◌∙◌, Bool, true, false, Some, refl, ap}
+use Rattle.std.specs.Prelude.{Result, Ok, Err, OnOk, IsErrOf, option_and_then, option_map, unwrap_or}
 use Rattle.xod_env.specs.declared.error.EnvError.{EnvError}
 use Rattle.xod_env.specs.declared.error.EnvError.TheVariants.{Broken}
 use Rattle.xod_recover.specs.Images.{AllStore}
 use Rattle.xod_journal.specs.Standing.{Newest}
-use Rattle.xod_recover.specs.Stores.{IsGood, Stored, rows_in, rows_stored, stored_in}
+use Rattle.xod_recover.specs.Stores.{Stored, rows_stored, stored_in}
 use Rattle.xod_tables.specs.Reading.{rows_of}
 use Rattle.xod_volume.specs.Files.{Files}
 use Rattle.xod_store.specs.Images.{Holds, commit_left}

@@ -1,5 +1,5 @@
 -- What a store keeps, all in one, and what calls of its environment and entries leave of it.
-use Rattle.std.proofs.Common.{◌≡◌, ◌≤◌, ◌<◌, ℕ, ◌+◌, Bool, true, false, List, [], Option, Some, None, ◌⊎◌, inl, inr, refl, sym, ap, subst, ◌∙◌, arith}
+use Rattle.std.proofs.Common.{◌≡◌, ◌≤◌, ℕ, Bool, true, false, List, Option, Some, None, inl, refl, sym, ap, ◌∙◌}
 use Rattle.std.specs.Prelude.{IsTrue, is_some, option_map}
 use Rattle.std.specs.Ordering.{nat_cmp}
 use Rattle.std.specs.FinMap.{FinMap}
@@ -12,14 +12,10 @@ use Rattle.xod_env.specs.Envs.{IsSteady, env_trees}
 use Rattle.xod_journal.specs.declared.journal.JournalEntry.{JournalEntry}
 use Rattle.xod_journal.specs.declared.journal.Pinned.{Pinned}
 use Rattle.xod_journal.specs.declared.journal.Step.{Step}
-use Rattle.xod_journal.specs.declared.journal.Step.TheVariants as step
 use Rattle.xod_journal.specs.Seats.{books_after, entered}
 use Rattle.xod_journal.specs.Standing.{Newest, Standing, changes_fit, newest_step, rows_step}
 use Rattle.xod_log.specs.declared.log.Log.{Log}
-use Rattle.xod_recover.specs.Images.{AllStore, Stores}
-use Rattle.xod_recover.specs.Stores.{Stored}
 use Rattle.xod_root.specs.Roots.{Roots}
-use Rattle.xod_volume.specs.Crash.{Passes, Rests}
 use Rattle.xod_volume.specs.Files.{Files}
 use Rattle.xod_store.specs.Images.{synced_in}
 use Rattle.xod_store.specs.Parts.{IsAccounted, IsBooked, IsSafe, IsTold, is_stop, kept_in}

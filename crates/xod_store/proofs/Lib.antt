@@ -5,6 +5,7 @@ mod Closing
 mod Flushes
 mod Flushing
 mod Keeping
+mod Leaving
 mod Newest
 mod Opened
 mod Rises

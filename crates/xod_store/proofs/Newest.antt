@@ -1,20 +1,20 @@
 -- What is known of the newest commit of a store.
-use Rattle.std.proofs.Common.{◌≡◌, ◌≤◌, ℕ, true, false, Option, Some, None, refl, sym, ap, subst, ◌∙◌, arith, List}
+use Rattle.std.proofs.Common.{◌≡◌, ◌≤◌, ℕ, true, false, Option, Some, None, refl, sym, ap, ◌∙◌, arith, List}
 use Rattle.std.specs.Prelude.{is_some, option_map, unwrap_or}
 use Rattle.std.specs.Ordering.{nat_cmp}
-use Rattle.std.specs.FinMap.{FinMap, get}
+use Rattle.std.specs.FinMap.{FinMap}
 use Rattle.std.proofs.lemmas.Option.{none-some, same_Some}
 use Rattle.xod_base.specs.Views.{Trees}
 use Rattle.xod_journal.specs.Books.{Books}
 use Rattle.xod_journal.specs.declared.journal.JournalEntry.{JournalEntry}
 use Rattle.xod_journal.specs.declared.journal.Pinned.{Pinned}
 use Rattle.xod_journal.specs.Seats.{Seat, books_after, seat_in, seat_of}
-use Rattle.xod_journal.specs.Standing.{Newest, newest_after, rows_at}
+use Rattle.xod_journal.specs.Standing.{Newest, rows_at}
 use Rattle.xod_recover.specs.Stores.{Stored, stored_in}
 use Rattle.xod_volume.specs.Files.{Files}
 use Rattle.xod_store.specs.Images.{Holds, IsPrefix, commit_left, synced_in}
 use Rattle.xod_store.specs.Parts.{IsBooked, IsTold, kept_in}
-use Rattle.xod_store.proofs.Rises.{Rises, rises, start-rows}
+use Rattle.xod_store.proofs.Rises.{rises, start-rows}
 use Rattle.xod_store.proofs.Safe.{prefix-at}
 use Rattle.xod_store.proofs.Told.{newest-rows}
 

@@ -1,8 +1,6 @@
 -- The transactions that steps hand out, and why steps are refused.
-use Rattle.std.proofs.Common.{◌≡◌, ◌≤◌, ℕ, ◌+◌, Bool, true, false, List, [], Option, Some, None, ◌⊎◌, inl, inr, refl, sym, ap, subst, ◌∙◌, arith}
-use Rattle.std.specs.Prelude.{IsTrue, option_map, unwrap_or, Result, Ok, Err}
-use Rattle.xod_base.specs.declared.causes.Cause.{Cause}
-use Rattle.xod_base.specs.declared.causes.Cause.TheVariants as cause
+use Rattle.std.proofs.Common.{◌≡◌, ℕ, Bool, true, false, List, [], Some, sym, ap, ◌∙◌}
+use Rattle.std.specs.Prelude.{IsTrue, option_map, unwrap_or}
 use Rattle.xod_base.specs.declared.query.Mode.{Mode}
 use Rattle.xod_base.specs.Causes.{Rose}
 use Rattle.xod_base.specs.Rows.{RowsValue, no_rows}
@@ -13,10 +11,9 @@ use Rattle.xod_estxn.specs.Txns.{base_rows, txn_over}
 use Rattle.xod_journal.specs.declared.change.RowChange.{RowChange}
 use Rattle.xod_journal.specs.declared.journal.JournalEntry.{JournalEntry}
 use Rattle.xod_journal.specs.Changes.{all_applied}
-use Rattle.xod_journal.specs.Locals.{held_of}
-use Rattle.xod_journal.specs.Spaces.{HasReason, IsFault, IsTxn, Refuses, SpaceView}
+use Rattle.xod_journal.specs.Spaces.{HasReason, IsFault, IsTxn, SpaceView}
 use Rattle.xod_journal.specs.Standing.{Newest, newest_after}
-use Rattle.xod_journal.specs.Txns.{OpenTxn, txn_at}
+use Rattle.xod_journal.specs.Txns.{txn_at}
 use Rattle.xod_tables.specs.Reading.{rows_of}
 use Rattle.xod_store.specs.Causes.{cause_of}
 use Rattle.xod_store.specs.Parts.{IsTold}

@@ -2,14 +2,14 @@
 use Rattle.std.proofs.Common.{◌≡◌, ◌≤◌, ℕ, ◌+◌, Bool, true, false, cond, List, [], ◌∷◌, Option, Some, None, refl, sym, ap, subst, ◌∙◌, arith, eqb-true}
 use Rattle.std.specs.Prelude.{is_some, ◌==◌, option_map, unwrap_or}
 use Rattle.std.specs.Ordering.{nat_cmp}
-use Rattle.std.specs.FinMap.{FinMap, empty, get, get-empty, insert, remove}
+use Rattle.std.specs.FinMap.{get, get-empty, insert, remove}
 use Rattle.std.proofs.lemmas.Bool.{false≢true}
 use Rattle.std.proofs.lemmas.Option.{none-some, same_Some}
 use Rattle.xod_journal.specs.declared.journal.JournalEntry.{JournalEntry}
 use Rattle.xod_journal.specs.declared.journal.Pinned.{Pinned}
 use Rattle.xod_journal.specs.declared.journal.Step.{Step}
 use Rattle.xod_journal.specs.declared.journal.Step.TheVariants.{Begin, Revert, Flush, End, Sync, Stop}
-use Rattle.xod_journal.specs.Books.{Books, all_booked, booked, booked_in, committed, flush_answer, holder, pinned, same_version, unpinned, version_of}
+use Rattle.xod_journal.specs.Books.{Books, all_booked, booked, booked_in, committed, flush_answer, holder, pinned, same_version, version_of}
 use Rattle.xod_journal.specs.Seats.{books_after, entered}
 use Rattle.xod_base.specs.Rows.{RowsValue}
 use Rattle.xod_journal.specs.Standing.{Newest, opening, rows_at, rows_step}

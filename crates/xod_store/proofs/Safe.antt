@@ -1,24 +1,21 @@
 -- What a call and an entry leave of what a crash may leave of a store.
-use Rattle.std.proofs.Common.{◌≡◌, ◌≤◌, ◌<◌, ℕ, ◌+◌, Bool, true, false, cond, List, [], ◌∷◌, Option, Some, None, ◌⊎◌, inl, inr, refl, sym, ap, subst, ◌∙◌, arith, leb-true}
-use Rattle.std.specs.Prelude.{IsTrue, is_some, nat_le, option_map, option_and_then, unwrap_or}
-use Rattle.std.proofs.lemmas.Bool.{false≢true}
-use Rattle.std.proofs.lemmas.Option.{none-some, same_Some}
+use Rattle.std.proofs.Common.{◌≡◌, ◌≤◌, ◌<◌, ℕ, Bool, true, false, cond, List, [], Some, inl, inr, refl, sym, ap, subst, ◌∙◌, arith, leb-true}
+use Rattle.std.specs.Prelude.{is_some, nat_le, option_map, option_and_then, unwrap_or}
 use Rattle.xod_base.specs.Rows.{RowsValue}
-use Rattle.xod_base.specs.Views.{Trees}
 use Rattle.xod_env.specs.Envs.{IsSteady}
 use Rattle.xod_journal.specs.declared.change.RowChange.{RowChange}
 use Rattle.xod_journal.specs.declared.journal.JournalEntry.{JournalEntry}
 use Rattle.xod_journal.specs.declared.journal.Step.{Step}
 use Rattle.xod_journal.specs.declared.journal.Step.TheVariants as step
 use Rattle.xod_journal.specs.Changes.{all_applied}
-use Rattle.xod_journal.specs.Seats.{books_after, entered}
+use Rattle.xod_journal.specs.Seats.{entered}
 use Rattle.xod_journal.specs.Standing.{Newest, newest_after, newest_step, rows_at, rows_step}
 use Rattle.xod_journal.proofs.CallerLemmas.{newest_after-append, rows_at-append}
 use Rattle.xod_log.specs.declared.log.Log.{Log}
 use Rattle.xod_recover.specs.Images.{AllStore, Settled, Stores}
-use Rattle.xod_recover.specs.Stores.{Stored, commit_in, rows_in, rows_stored, stored_in}
+use Rattle.xod_recover.specs.Stores.{Stored, rows_stored, stored_in}
 use Rattle.xod_tables.specs.Reading.{rows_of}
-use Rattle.xod_volume.specs.Crash.{LeftSince, Passes, Rests}
+use Rattle.xod_volume.specs.Crash.{Passes, Rests}
 use Rattle.xod_volume.specs.Files.{Files}
 use Rattle.xod_volume.proofs.CallerLemmas.{since_call}
 use Rattle.xod_store.specs.Images.{IsPrefix, LeavesPrefixes, commit_left, synced_in}

@@ -1,7 +1,6 @@
 -- What an entry leaves of what a store knows of its rows.
-use Rattle.std.proofs.Common.{◌≡◌, ◌≤◌, ℕ, Bool, true, false, cond, List, [], ◌∷◌, Option, Some, None, refl, sym, ap, subst, ◌∙◌, arith}
+use Rattle.std.proofs.Common.{◌≡◌, ℕ, true, false, cond, List, [], ◌∷◌, Option, Some, None, refl, sym, ap, subst, ◌∙◌, arith}
 use Rattle.std.specs.Prelude.{IsTrue, is_some, option_map}
-use Rattle.std.specs.FinMap.{get}
 use Rattle.std.specs.Option.{unwrap_or}
 use Rattle.std.proofs.lemmas.Bool.{false≢true}
 use Rattle.std.proofs.lemmas.Option.{none-some, same_Some}
@@ -9,7 +8,6 @@ use Rattle.xod_base.specs.Rows.{RowsValue, is_sound, no_rows}
 use Rattle.xod_base.specs.Views.{Tree, Trees}
 use Rattle.xod_journal.specs.declared.change.RowChange.{RowChange}
 use Rattle.xod_journal.specs.declared.journal.JournalEntry.{JournalEntry}
-use Rattle.xod_journal.specs.declared.journal.Pinned.{Pinned}
 use Rattle.xod_journal.specs.declared.journal.Step.{Step}
 use Rattle.xod_journal.specs.declared.journal.Step.TheVariants as step
 use Rattle.xod_journal.specs.Books.{Books, all_booked, booked}

@@ -1,32 +1,26 @@
 -- What a call of the environment that writes leaves of what a store keeps.
-use Rattle.std.proofs.Common.{◌≡◌, ◌≤◌, ◌<◌, ℕ, ◌+◌, Bool, true, false, List, [], Option, Some, None, ◌⊎◌, inl, inr, refl, sym, ap, subst, ◌∙◌, arith, nat_eq, eqb-true, eq-eqb, cond}
-use Rattle.std.specs.Prelude.{◌||◌, ◌^◌, IsTrue, is_some, option_map}
+use Rattle.std.proofs.Common.{◌≡◌, ◌≤◌, ℕ, ◌+◌, Bool, true, false, List, Some, inr, refl, sym, ap, ◌∙◌, arith, nat_eq, cond}
+use Rattle.std.specs.Prelude.{◌||◌, IsTrue, is_some}
 use Rattle.std.specs.Ordering.{nat_cmp}
 use Rattle.std.specs.FinMap.{FinMap}
-use Rattle.std.proofs.lemmas.Bool.{false≢true}
 use mathlib.Core.Path.{transport}
-use base.Fml.{GName}
 use Rattle.xod_base.specs.Causes.{Rose}
-use Rattle.xod_base.specs.Rows.{RowsValue}
-use Rattle.xod_base.specs.Views.{Trees}
 use Rattle.xod_env.specs.Envs.{IsSteady, env_trees, newest_stored}
 use Rattle.xod_env.specs.Flushes.{KeepsCommit}
 use Rattle.xod_journal.specs.declared.change.RowChange.{RowChange}
 use Rattle.xod_journal.specs.declared.journal.JournalEntry.{JournalEntry}
 use Rattle.xod_journal.specs.declared.journal.Pinned.{Pinned}
 use Rattle.xod_journal.specs.declared.journal.Step.TheVariants as step
-use Rattle.xod_journal.specs.Books.{Books}
 use Rattle.xod_journal.specs.Seats.{books_after, entered}
-use Rattle.xod_journal.specs.Standing.{Newest, newest_after}
+use Rattle.xod_journal.specs.Standing.{Newest}
 use Rattle.xod_log.specs.declared.log.Log.{Log}
 use Rattle.xod_log.specs.Standing.{is_last, sealed_log}
 use Rattle.xod_recover.specs.Images.{AllStore, Stores}
-use Rattle.xod_recover.specs.Stores.{Stored, stored_in}
 use Rattle.xod_root.specs.Roots.{Roots}
 use Rattle.xod_volume.specs.Crash.{Passes}
 use Rattle.xod_volume.specs.Files.{Files}
-use Rattle.xod_store.specs.Images.{IsPrefix, synced_in}
-use Rattle.xod_store.specs.Parts.{IsAccounted, IsBooked, IsSafe, IsTold, kept_in}
+use Rattle.xod_store.specs.Images.{synced_in}
+use Rattle.xod_store.specs.Parts.{IsBooked, IsSafe, IsTold, kept_in}
 use Rattle.xod_store.specs.Views.{is_spent}
 use Rattle.xod_store.proofs.Accounted.{accounted-entered, accounted-later}
 use Rattle.xod_store.proofs.Booked.{keeps-wider}

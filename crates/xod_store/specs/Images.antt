@@ -1,5 +1,5 @@
 -- What a crash may leave of a store.
-use Rattle.std.specs.Prelude.{◌≡◌, ◌≤◌, ℕ, true, is_some, List, Option, Some, option_map}
+use Rattle.std.specs.Prelude.{◌≡◌, ◌≤◌, ℕ, true, is_some, List, Some, option_map}
 use Rattle.std.specs.Option.{unwrap_or}
 use Rattle.xod_journal.specs.declared.journal.JournalEntry.{JournalEntry}
 use Rattle.xod_journal.specs.Seats.{books_after}

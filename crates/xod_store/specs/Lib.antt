@@ -2,6 +2,7 @@ pub mod Causes
 pub mod Facts
 pub mod Flushed
 pub mod Images
+pub mod Leaving
 pub mod Parts
 pub mod Pins
 pub mod Starts

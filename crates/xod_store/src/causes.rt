@@ -50,7 +50,7 @@ pub fn cause_of(error: EnvError) -> Cause
 }
 
 /// The fault of a begin that a session is told.
-pub(crate) fn fault_of(error: BeginError) -> BeginFault
+pub fn fault_of(error: BeginError) -> BeginFault
     ensures { result ≡ fault_of error }
 {
     match error {

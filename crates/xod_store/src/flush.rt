@@ -13,6 +13,8 @@ ghost use Rattle.xod_journal.specs.Locals.{KeepsLocal};
 ghost use Rattle.xod_journal.specs.Spaces.{Flushes, IsFlushed, IsOpen, KeepsSpace, Refuses, newest_of};
 ghost use Rattle.xod_store.specs.Causes.{cause_of};
 ghost use Rattle.xod_store.specs.Flushed.{MayGoOn, answered};
+ghost use Rattle.xod_store.specs.Leaving.{StepLeaves};
+ghost use Rattle.xod_volume.specs.Crash.{Rests};
 
 use crate::causes::cause_of;
 use crate::pins::pin_newest;
@@ -73,6 +75,9 @@ impl<V: Volume> StoreState<V> {
             → IsSpent self.old.env.commit self.old.env.log last }
         ensures keeps { KeepsSpace (⟦<StoreState<V> as Space>⟧.view self.old)
             (⟦<StoreState<V> as Space>⟧.view self.new) }
+        ensures start { self.new.start ≡ self.old.start }
+        ensures crash { StepLeaves self.old.start.origin.value self.old.journal.items
+            self.old.env self.new.env }
     {
         let (changes, next) = self.prepare(alloc, txn.changes().as_slice())?;
         match self.enter_flush(alloc, actor, txn, changes, next)? {
@@ -94,6 +99,7 @@ impl<V: Volume> StoreState<V> {
         ensures view { ⟦<StoreState<V> as Space>⟧.view self.new
             ≡ ⟦<StoreState<V> as Space>⟧.view self.old }
         ensures env { self.new.env ≡ self.old.env }
+        ensures start { self.new.start ≡ self.old.start }
         ensures room { OnOk result (vec_len self.new.journal + (self.new.start.sessions + 1)
             ≤ vec_capacity self.new.journal) }
         ensures copied { IfOk result (λ made. made.0 ≡ changes.now) }
@@ -136,6 +142,9 @@ impl<V: Volume> StoreState<V> {
             → IsSpent self.old.env.commit self.old.env.log last }
         ensures keeps { KeepsSpace (⟦<StoreState<V> as Space>⟧.view self.old)
             (⟦<StoreState<V> as Space>⟧.view self.new) }
+        ensures start { self.new.start ≡ self.old.start }
+        ensures crash { StepLeaves self.old.start.origin.value self.old.journal.items
+            self.old.env self.new.env }
     {
         let base = txn.view().version;
         let answer = answered(self.env.flush(alloc, base, txn.overlay()))?;
@@ -173,6 +182,10 @@ impl<V: Volume> StoreState<V> {
         ensures journal { self.new.journal.items ≡ self.old.journal.items }
         ensures keeps { KeepsSpace (⟦<StoreState<V> as Space>⟧.view self.old)
             (⟦<StoreState<V> as Space>⟧.view self.new) }
+        ensures start { self.new.start ≡ self.old.start }
+        ensures rests { IsTrue (V.tells self.old.env.volume)
+            → Rests (V.moment self.old.env.volume) (V.moment self.new.env.volume)
+            (V.may_leave self.old.env.volume) (V.may_leave self.new.env.volume) }
     {
         match pin_newest(alloc, &mut self.env, &self.adapter) {
             Ok((snapshot, adapter)) => {

@@ -12,5 +12,5 @@ mod space;
 mod state;
 mod steps;
 
-pub use causes::{BeginError, cause_of};
+pub use causes::{BeginError, cause_of, fault_of};
 pub use state::{Start, StoreState, StoreTxn};

@@ -13,6 +13,7 @@ ghost use Rattle.xod_journal.specs.Seats.{entered};
 ghost use Rattle.xod_journal.specs.Spaces.{Begins, CanStop, HasNoTxn, HasNotStopped, IsOpen, KeepsSpace, Refuses, Reverts, Syncs, faults_in};
 ghost use Rattle.xod_store.specs.declared.causes.BeginError.{BeginError};
 ghost use Rattle.xod_store.specs.Causes.{cause_of, fault_of};
+ghost use Rattle.xod_store.specs.Leaving.{StepLeaves};
 
 use crate::causes::BeginError;
 use crate::pins::{pin_newest, take_back};
@@ -42,6 +43,9 @@ impl<V: Volume> StoreState<V> {
         ensures undamaged { (place : Place) → ¬ (result ≡ Err (BeginError.Env (env_error.Damaged place))) }
         ensures keeps { KeepsSpace (⟦<StoreState<V> as Space>⟧.view self.old)
             (⟦<StoreState<V> as Space>⟧.view self.new) }
+        ensures start { self.new.start ≡ self.old.start }
+        ensures crash { StepLeaves self.old.start.origin.value self.old.journal.items
+            self.old.env self.new.env }
     {
         if let Some(holder) = self.open_txns.holder(mode) {
             return Err(BeginError::Busy { holder });
@@ -77,6 +81,9 @@ impl<V: Volume> StoreState<V> {
         ensures undamaged { (place : Place) → ¬ (result ≡ Err (env_error.Damaged place)) }
         ensures keeps { KeepsSpace (⟦<StoreState<V> as Space>⟧.view self.old)
             (⟦<StoreState<V> as Space>⟧.view self.new) }
+        ensures start { self.new.start ≡ self.old.start }
+        ensures crash { StepLeaves self.old.start.origin.value self.old.journal.items
+            self.old.env self.new.env }
     {
         make_room(&mut self.journal, self.start.sessions as usize + 1)?;
         let (snapshot, adapter) = pin_newest(alloc, &mut self.env, &self.adapter)?;
@@ -99,6 +106,9 @@ impl<V: Volume> StoreState<V> {
             ⟦<StoreTxn<V> as Local>⟧.refs ⟦<StoreTxn<V> as Local>⟧.faults txn) }
         ensures keeps { KeepsSpace (⟦<StoreState<V> as Space>⟧.view self.old)
             (⟦<StoreState<V> as Space>⟧.view self.new) }
+        ensures start { self.new.start ≡ self.old.start }
+        ensures crash { StepLeaves self.old.start.origin.value self.old.journal.items
+            self.old.env self.new.env }
     {
         let Ok(()) = make_room(&mut self.journal, self.start.sessions as usize + 1) else {
             return Err(txn);
@@ -120,6 +130,9 @@ impl<V: Volume> StoreState<V> {
         ensures undamaged { (place : Place) → ¬ (result ≡ Err (env_error.Damaged place)) }
         ensures keeps { KeepsSpace (⟦<StoreState<V> as Space>⟧.view self.old)
             (⟦<StoreState<V> as Space>⟧.view self.new) }
+        ensures start { self.new.start ≡ self.old.start }
+        ensures crash { StepLeaves self.old.start.origin.value self.old.journal.items
+            self.old.env self.new.env }
     {
         make_room(&mut self.journal, self.start.sessions as usize + 1)?;
         self.env.sync()?;
@@ -142,6 +155,9 @@ impl<V: Volume> StoreState<V> {
             ≡ entered self.old.journal.items actor (step.Stop line cause origin) }
         ensures keeps { KeepsSpace (⟦<StoreState<V> as Space>⟧.view self.old)
             (⟦<StoreState<V> as Space>⟧.view self.new) }
+        ensures start { self.new.start ≡ self.old.start }
+        ensures crash { StepLeaves self.old.start.origin.value self.old.journal.items
+            self.old.env self.new.env }
     {
         take_back(&mut self.env, txn);
         self.open_txns.remove(actor);

@@ -1,9 +1,6 @@
-use Rattle.std.proofs.Common.{◌≡◌, ◌≤◌, ℕ, ◌∙◌, refl, sym, ap, subst, true, false, Option, arith}
-use Rattle.std.specs.Prelude.{option_map, unwrap_or}
+use Rattle.std.proofs.Common.{◌≡◌, refl, sym, subst, true, false, arith}
 use mathlib.Core.Path.{transport}
 use Rattle.xod_env.specs.Envs.{newest_stored}
-use Rattle.xod_recover.specs.Stores.{Stored}
-use Rattle.xod_volume.specs.Files.{Files}
 use Rattle.xod_store.specs.Images.{HoldsEarlier, LeavesPrefixes}
 use Rattle.xod_store.specs.Views.{env_newest}
 use Rattle.xod_store.proofs.Closing.{ok-holds, ok-stores}

@@ -16,7 +16,8 @@ use Rattle.xod_store.specs.Views.{is_spent}
 use Rattle.xod_store.proofs.Booked.{open-is}
 use Rattle.xod_store.proofs.Flushes.{made-facts, overlaid-newest, rows-committed, unchanged-facts, with-refused, with-same}
 use Rattle.xod_store.proofs.Flushing.{answer-commit, answer-conflict, answer-nothing, behind, flush-refused, here-commit, last-commit, last-refused, unbroken-commit, whole-commit, whole-conflict, whole-nothing}
-use Rattle.xod_store.proofs.Newest.{base-low}
+use Rattle.xod_store.proofs.Leaving.{at-least-wrote}
+use Rattle.xod_store.proofs.Newest.{base-low, synced-low}
 use Rattle.xod_store.proofs.state.StoreState.enter_flush.Goals as goal
 
 pub flush-requires-clause-seen : goal.flush-requires-clause-seen
@@ -200,3 +201,23 @@ returns-in-Committed-clause-keeps g c =
       stays_broken = λ is. absurd (false≢true (sym (whole-commit c.overlay.ensures.kept c.flush.ensures.broken_exactly c.flush.ensures.nothing_exactly c.flush.ensures.conflict_exactly _ at) ∙ is));
       stays_last = last-commit c.overlay.ensures.kept c.flush.ensures.broken_exactly c.flush.ensures.nothing_exactly c.flush.ensures.conflict_exactly c.flush.new.self.commit flush.goes_on _ at flush.spent_by_file (λ whole some base last. (flush.spent_by_commit whole some base last).0);
     }
+
+pub returns-in_err-answer-clause-crash : goal.returns-in_err-answer-clause-crash
+returns-in_err-answer-clause-crash g c told calm =
+    let store = c.args.self.now in
+    at-least-wrote store.env c.flush.new.self c.flush.ensures.broken_before_all (c.flush.ensures.crash told) (store.safe told calm).steady (synced-low _ _ _ _ _ _ _ store.booked) (store.safe told calm).leaves.synced
+
+pub returns-in-Nothing-clause-crash : goal.returns-in-Nothing-clause-crash
+returns-in-Nothing-clause-crash g c told calm =
+    let store = c.args.self.now in
+    at-least-wrote store.env c.flush.new.self c.flush.ensures.broken_before_all (c.flush.ensures.crash told) (store.safe told calm).steady (synced-low _ _ _ _ _ _ _ store.booked) (store.safe told calm).leaves.synced
+
+pub returns-in-Conflict-clause-crash : goal.returns-in-Conflict-clause-crash
+returns-in-Conflict-clause-crash g c told calm =
+    let store = c.args.self.now in
+    at-least-wrote store.env c.flush.new.self c.flush.ensures.broken_before_all (c.flush.ensures.crash told) (store.safe told calm).steady (synced-low _ _ _ _ _ _ _ store.booked) (store.safe told calm).leaves.synced
+
+pub returns-in-Committed-clause-crash : goal.returns-in-Committed-clause-crash
+returns-in-Committed-clause-crash g c told calm =
+    let store = c.args.self.now in
+    at-least-wrote store.env c.flush.new.self c.flush.ensures.broken_before_all (c.flush.ensures.crash told) (store.safe told calm).steady (synced-low _ _ _ _ _ _ _ store.booked) (store.safe told calm).leaves.synced

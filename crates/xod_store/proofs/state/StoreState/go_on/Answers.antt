@@ -2,6 +2,7 @@ use Rattle.std.proofs.Common.{◌∙◌, refl, sym, arith}
 use Rattle.std.specs.Prelude.{vec_capacity}
 use Rattle.xod_store.proofs.Keeping.{rested}
 use Rattle.xod_store.proofs.Opened.{may-begin}
+use Rattle.xod_store.proofs.Leaving.{rests-again}
 use Rattle.xod_store.proofs.state.StoreState.go_on.Goals as goal
 
 pub invariant_of-self-in-Err-1 : goal.invariant_of-self-in-Err-1
@@ -22,3 +23,6 @@ renew-old-requires g c told =
     let pinned = c.in-Ok.ensures in
     let tell = sym pinned.tells_alike ∙ told in
     may-begin _ _ _ _ _ (c.args.self.now.told tell) (pinned.trees tell) _ pinned.names
+
+pub returns-in-Ok-clause-rests : goal.returns-in-Ok-clause-rests
+returns-in-Ok-clause-rests g c told = rests-again (c.pin_newest.ensures.files.rests told) (c.unpin.ensures.files.rests (c.pin_newest.ensures.files.tells_same ∙ told))

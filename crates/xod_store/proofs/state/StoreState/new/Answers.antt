@@ -1,10 +1,10 @@
-use Rattle.std.proofs.Common.{◌≡◌, ◌∙◌, refl, sym, ap, [], Some}
+use Rattle.std.proofs.Common.{◌∙◌, refl, sym, ap, [], Some}
 use Rattle.std.specs.Prelude.{vec_len, vec_capacity}
 use mathlib.Core.Path.{transport}
 use Rattle.xod_env.specs.Envs.{env_trees, newest_stored}
 use Rattle.xod_recover.specs.Images.{Settled}
 use Rattle.xod_store.specs.Images.{synced_in}
-use Rattle.xod_store.specs.Parts.{IsAccounted, IsBooked, IsSafe, IsTold}
+use Rattle.xod_store.specs.Parts.{IsBooked, IsSafe, IsTold}
 use Rattle.xod_store.specs.Views.{env_newest, is_spent}
 use Rattle.xod_store.proofs.Accounted.{accounted-new}
 use Rattle.xod_store.proofs.Booked.{keeps-new}

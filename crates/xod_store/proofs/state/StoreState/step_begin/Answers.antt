@@ -1,10 +1,11 @@
-use Rattle.std.proofs.Common.{◌≡◌, ◌∙◌, refl, sym, ap, arith, None, ℕ}
-use Rattle.std.specs.Prelude.{vec_len, vec_capacity}
+use Rattle.std.proofs.Common.{◌∙◌, refl, sym, ap, arith, None, ℕ}
+use Rattle.std.specs.Prelude.{vec_capacity}
 use Rattle.std.specs.FinMap.{insert}
 use Rattle.xod_journal.specs.Seats.{entered}
 use Rattle.xod_journal.specs.declared.journal.Step.TheVariants as step
 use Rattle.xod_store.proofs.Booked.{grew, keeps-begun, keeps-same}
 use Rattle.xod_store.proofs.Keeping.{entered-facts, rested}
+use Rattle.xod_store.proofs.Leaving.{at-least-behind, at-least-rests, at-least-same}
 use Rattle.xod_store.proofs.state.StoreState.step_begin.Goals as goal
 
 pub invariant_of-self-in-Break-branch-2 : goal.invariant_of-self-in-Break-branch-2
@@ -34,3 +35,16 @@ invariant_of-self-2 g c =
     (c.in_default-set.ensures ∙ ap (λ (b : ℕ). insert store.open_txns c.args.actor (record { mode = c.args.mode; base = b })) (c.in_ok-snapshot.ensures.version ∙ sym c.pin_newest.ensures.newest.commit))
     (grew _ _ _ _ _ _ _ _ _ _ (step.Begin c.args.mode) made.items made.len c.in_ok-make_room.ensures.room put.items put.len put.capacity)) in
     record { tells = c.pin_newest.ensures.files.tells_same ∙ store.tells; accounted = now.accounted; booked = now.booked; told = now.told; safe = now.safe }
+
+pub returns-in-Some-clause-crash : goal.returns-in-Some-clause-crash
+returns-in-Some-clause-crash g c told calm = at-least-same (g.V.Volume.may_leave c.args.self.now.env.volume) (c.args.self.now.safe told calm).leaves.synced
+
+pub returns-in_err-make_room-clause-crash : goal.returns-in_err-make_room-clause-crash
+returns-in_err-make_room-clause-crash g c told calm = at-least-same (g.V.Volume.may_leave c.args.self.now.env.volume) (c.args.self.now.safe told calm).leaves.synced
+
+pub returns-in-Err-clause-crash : goal.returns-in-Err-clause-crash
+returns-in-Err-clause-crash g c told calm =
+    at-least-behind (at-least-rests (c.args.self.now.safe told calm).leaves.synced (c.pin_newest.ensures.files.rests told)) (c.unpin.ensures.files.rests (c.pin_newest.ensures.files.tells_same ∙ told))
+
+pub returns-clause-crash : goal.returns-clause-crash
+returns-clause-crash g c told calm = at-least-rests (c.args.self.now.safe told calm).leaves.synced (c.pin_newest.ensures.files.rests told)

@@ -1,9 +1,10 @@
-use Rattle.std.proofs.Common.{◌≡◌, ◌∙◌, refl, sym, ap, arith, None}
-use Rattle.std.specs.Prelude.{vec_len, vec_capacity}
+use Rattle.std.proofs.Common.{◌∙◌, refl, ap, arith}
+use Rattle.std.specs.Prelude.{vec_capacity}
 use Rattle.xod_journal.specs.Seats.{entered}
 use Rattle.xod_journal.specs.declared.journal.Step.TheVariants as step
 use Rattle.xod_store.proofs.Booked.{grew, keeps-ended}
 use Rattle.xod_store.proofs.Keeping.{entered-facts, rested}
+use Rattle.xod_store.proofs.Leaving.{at-least-rests}
 use Rattle.xod_store.proofs.state.StoreState.step_end.Goals as goal
 
 pub invariant_of-self-2 : goal.invariant_of-self-2
@@ -15,3 +16,6 @@ invariant_of-self-2 g c =
     let now = entered-facts there c.args.actor step.End refl refl (λ s. refl) (λ n. refl) (λ n rows. refl) (put.items ∙ ap (λ j. entered j c.args.actor step.End) made.items)
     (keeps-ended _ _ _ _ _ _ _ there.booked c.args.actor _ c.requires.seat _ _ _ _ _ refl c.remove.ensures (grew _ _ _ _ _ _ _ _ _ _ step.End made.items made.len made.room put.items put.len put.capacity)) in
     record { tells = c.unpin.ensures.files.tells_same ∙ store.tells; accounted = now.accounted; booked = now.booked; told = now.told; safe = now.safe }
+
+pub returns-clause-crash : goal.returns-clause-crash
+returns-clause-crash g c told calm = at-least-rests (c.args.self.now.safe told calm).leaves.synced (c.unpin.ensures.files.rests told)

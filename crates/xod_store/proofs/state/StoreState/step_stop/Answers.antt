@@ -1,5 +1,5 @@
 use Rattle.std.proofs.Common.{◌∙◌, refl, arith}
-use Rattle.std.specs.Prelude.{vec_len, vec_capacity}
+use Rattle.std.specs.Prelude.{vec_capacity}
 use Rattle.xod_journal.specs.declared.journal.Step.TheVariants as step
 use Rattle.xod_journal.proofs.CallerLemmas.{seat-open}
 use Rattle.xod_store.specs.Views.{env_newest, store_view}
@@ -7,6 +7,7 @@ use Rattle.xod_store.proofs.Accounted.{accounted-stopped}
 use Rattle.xod_store.proofs.Booked.{keeps-stopped, stop-room}
 use Rattle.xod_store.proofs.Keeping.{rested, stopped-facts}
 use Rattle.xod_store.proofs.Stopping.{accounted-there}
+use Rattle.xod_store.proofs.Leaving.{at-least-rests}
 use Rattle.xod_store.proofs.state.StoreState.step_stop.Goals as goal
 
 pub enter-requires : goal.enter-requires
@@ -27,3 +28,6 @@ invariant_of-self g c =
     let count = accounted-there back.newest back.log back.broken_as_before (accounted-stopped space store.accounted c.args.actor c.args.line _ _ back.files.never_falls back.counted c.args.cause c.args.origin _ c.requires.met put.items) in
     let now = stopped-facts there c.args.actor (step.Stop c.args.line c.args.cause c.args.origin) refl (λ s. refl) (λ n. refl) (λ n rows. refl) put.items booked count in
     record { tells = back.files.tells_same ∙ store.tells; accounted = now.accounted; booked = now.booked; told = now.told; safe = now.safe }
+
+pub returns-clause-crash : goal.returns-clause-crash
+returns-clause-crash g c told calm = at-least-rests (c.args.self.now.safe told calm).leaves.synced (c.take_back.ensures.files.rests told)

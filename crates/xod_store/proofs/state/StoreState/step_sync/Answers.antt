@@ -8,6 +8,8 @@ use Rattle.xod_store.specs.Views.{env_newest}
 use Rattle.xod_store.proofs.Booked.{grew, keeps-synced}
 use Rattle.xod_store.proofs.Keeping.{Facts}
 use Rattle.xod_store.proofs.Syncing.{sync-made, sync-refused, unless-broken, whole-ok, widened}
+use Rattle.xod_store.proofs.Leaving.{at-least-same, at-least-wrote}
+use Rattle.xod_store.proofs.Newest.{synced-low}
 use Rattle.xod_store.proofs.state.StoreState.step_sync.Goals as goal
 
 pub invariant_of-self-in-Break-branch-2 : goal.invariant_of-self-in-Break-branch-2
@@ -36,3 +38,16 @@ invariant_of-self-2 g c =
     (record { accounted = store.accounted; booked = store.booked; told = store.told; safe = store.safe }) (whole-ok c.in_ok-sync.ensures.refusals) c.in_ok-sync.ensures.durable c.args.actor grown.entry
     (keeps-synced _ _ _ _ _ _ _ store.booked c.args.actor seat.0 seat.1 _ _ _ grown) in
     record { tells = sync.stays.tells ∙ store.tells; accounted = now.accounted; booked = now.booked; told = now.told; safe = now.safe }
+
+pub returns-in_err-make_room-clause-crash : goal.returns-in_err-make_room-clause-crash
+returns-in_err-make_room-clause-crash g c told calm = at-least-same (g.V.Volume.may_leave c.args.self.now.env.volume) (c.args.self.now.safe told calm).leaves.synced
+
+pub returns-in_err-sync-clause-crash : goal.returns-in_err-sync-clause-crash
+returns-in_err-sync-clause-crash g c told calm =
+    let store = c.args.self.now in
+    at-least-wrote store.env c.sync.new.self c.sync.ensures.broken_before_all (c.sync.ensures.crash told) (store.safe told calm).steady (synced-low _ _ _ _ _ _ _ store.booked) (store.safe told calm).leaves.synced
+
+pub returns-clause-crash : goal.returns-clause-crash
+returns-clause-crash g c told calm =
+    let store = c.args.self.now in
+    at-least-wrote store.env c.sync.new.self c.sync.ensures.broken_before_all (c.sync.ensures.crash told) (store.safe told calm).steady (synced-low _ _ _ _ _ _ _ store.booked) (store.safe told calm).leaves.synced
