@@ -1,6 +1,6 @@
 -- What the crates above cite of players and their journals.
 -- stops of sessions that were left
-pub use Rattle.xod_play.proofs.LeftLemmas.{left-causes, left-device, left-given, left-met, left-newest, left-rows, left-status, left-synced}
+pub use Rattle.xod_play.proofs.LeftLemmas.{left-causes, left-device, left-given, left-met, left-newest, left-rows, left-synced}
 -- what a call of a space leaves
 pub use Rattle.xod_play.proofs.CauseLemmas.{causes-kept, keeps-all, keeps-on}
 -- what was gathered

@@ -23,7 +23,7 @@ use Rattle.xod_session.proofs.OptionLemmas.{both_true}
 use Rattle.xod_play.specs.Finished.{HasFinished, is_left_stop}
 use Rattle.xod_play.specs.Follows.{has_given_up}
 use Rattle.xod_play.specs.Rounds.{StopsHaveCauses}
-use Rattle.xod_play.specs.Stops.{has_met, is_damage, is_fault, is_memory, is_met, is_spent, status_after}
+use Rattle.xod_play.specs.Stops.{has_met, is_met}
 use Rattle.xod_play.proofs.CauseLemmas.{causes-kept}
 use Rattle.xod_play.proofs.FollowLemmas.{given-append}
 
@@ -101,10 +101,6 @@ module _ (journal left : List JournalEntry) (only : list_all (λ entry. is_left_
   -- nor of any session
   pub left-given : (actor : ℕ) → has_given_up (journal ++ left) actor ≡ has_given_up journal actor
   left-given actor = given-append journal left actor ∙ ap (λ b. has_given_up journal actor || b) (given_left actor left only) ∙ either_false (has_given_up journal actor)
-
-  -- the status is the same
-  pub left-status : status_after (journal ++ left) ≡ status_after journal
-  left-status = λ i. if left-met is_fault i then 4 else if left-met is_damage i then 8 else if left-met is_spent i then 10 else if left-met is_memory i then 5 else 0
 
   -- the stops for a device's fault are as many
   pub left-device : device_stops (journal ++ left) ≡ device_stops journal

@@ -1,5 +1,5 @@
--- The stops of a journal that this run met, and what they make of its status.
-use Rattle.std.specs.Prelude.{ℕ, Bool, true, false, List, if◌then◌else◌}
+-- The stops of a journal that this run met, by their causes.
+use Rattle.std.specs.Prelude.{Bool, true, false, List, if◌then◌else◌}
 use Rattle.std.specs.List.{list_any}
 use Rattle.xod_base.specs.declared.causes.Cause.{Cause}
 use Rattle.xod_base.specs.declared.causes.Cause.TheVariants.{Device, Broken, Damaged, Spent, Memory}
@@ -47,12 +47,3 @@ is_spent other = false
 abbrev pub is_memory : Cause → Bool
 is_memory Memory = true
 is_memory other = false
-
--- The status of a run with a journal: that of the first cause in this order, and 0 where the run met no stop.
-abbrev pub status_after : List JournalEntry → ℕ
-status_after journal =
-    if has_met is_fault journal then 4
-    else if has_met is_damage journal then 8
-    else if has_met is_spent journal then 10
-    else if has_met is_memory journal then 5
-    else 0

@@ -3,7 +3,7 @@
 //! What the sessions say can be gathered before they end, and the rest be put behind it when all is done.
 ghost use Rattle.std.specs.Prelude.{◌≡◌, ◌++◌, IfOk, OnOk};
 ghost use Rattle.std.specs.List.{flat_map};
-ghost use Rattle.xod_play.specs.Told.{IsGathered, gathered_text, hits_in, misses_in, names_in, told_text, told_transcript};
+ghost use Rattle.xod_play.specs.Told.{IsGathered, gathered_text, hits_in, misses_in, names_in, told_text};
 
 use crate::player::Player;
 use crate::transcript::{push_order, push_total};
@@ -115,18 +115,4 @@ impl Gathered {
         push_order(alloc, &mut out, &names, journal)?;
         Ok(out)
     }
-}
-
-/// The transcript of players behind a journal, with the newest commit and the number of log files.
-pub fn print_transcript<O: Local>(
-    alloc: Global,
-    players: &[Player<O>],
-    commit: u64,
-    files: u64,
-    journal: &[JournalEntry],
-) -> Result<Bytes, Memory>
-    ensures { IfOk result (λ text. text ≡ told_transcript commit files journal.now players.now) }
-{
-    let gathered = gather(alloc, players)?;
-    gathered.finish(alloc, commit, files, journal)
 }

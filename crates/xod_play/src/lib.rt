@@ -2,7 +2,7 @@
 //!
 //! Sessions are seated, an order is played turn by turn to its end or up to its first item that can't be taken, what came
 //! of it is printed, and the sessions are ended. What one turn comes to stands in `specs/Players.antt`, what stands behind
-//! an order in `specs/Rounds.antt`, and which status the stops of a run make in `specs/Stops.antt`.
+//! an order in `specs/Rounds.antt`, and for which causes the stops of a run came in `specs/Stops.antt`.
 #![tactic(auto)]
 
 mod finish;
@@ -13,7 +13,7 @@ mod stops;
 mod transcript;
 
 pub use finish::{finish_all, let_all_go};
-pub use gathered::{Gathered, gather, print_transcript};
+pub use gathered::{Gathered, gather};
 pub use player::Player;
 pub use rounds::{replay, seat};
-pub use stops::{meets_damage, meets_fault, meets_spent, status_after, wants_memory};
+pub use stops::{meets_damage, meets_fault, meets_spent, wants_memory};

@@ -1,6 +1,6 @@
-//! The status that the stops of a run make. The rule stands in `specs/Stops.antt`.
-ghost use Rattle.std.specs.Prelude.{◌≡◌, if◌then◌else◌};
-ghost use Rattle.xod_play.specs.Stops.{has_met, is_damage, is_fault, is_memory, is_met as met_by, is_spent, status_after as status_by};
+//! For which causes the stops of a run came. The rule stands in `specs/Stops.antt`.
+ghost use Rattle.std.specs.Prelude.{◌≡◌};
+ghost use Rattle.xod_play.specs.Stops.{has_met, is_damage, is_fault, is_memory, is_met as met_by, is_spent};
 
 use xod_base::Cause;
 use xod_journal::{JournalEntry, Origin, Step};
@@ -87,31 +87,4 @@ pub fn wants_memory(journal: &[JournalEntry]) -> bool
     ensures { result ≡ has_met is_memory journal.now }
 {
     journal.iter().any(|entry| is_memory_met(&entry.step))
-}
-
-/// The status of the first cause that was met.
-fn status_of(fault: bool, damage: bool, spent: bool, memory: bool) -> u8
-    ensures { result ≡ (if fault then 4 else if damage then 8 else if spent then 10 else if memory then 5 else 0) }
-{
-    if fault {
-        return 4;
-    }
-    if damage {
-        return 8;
-    }
-    if spent {
-        return 10;
-    }
-    if memory { 5 } else { 0 }
-}
-
-/// The status of a run with a journal.
-pub fn status_after(journal: &[JournalEntry]) -> u8
-    ensures { result ≡ status_by journal.now }
-{
-    let fault = meets_fault(journal);
-    let damage = meets_damage(journal);
-    let spent = meets_spent(journal);
-    let memory = wants_memory(journal);
-    status_of(fault, damage, spent, memory)
 }
