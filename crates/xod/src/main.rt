@@ -1,8 +1,10 @@
 //! The program: it makes the real objects, hands them to a run, and ends with its status.
 #![tactic(auto)]
 
-ghost use Rattle.std.specs.Prelude.{◌≡◌, IfOk, OnErr, map, string_bytes};
-ghost use Rattle.xod_shell.specs.Endings.{Ends, IsTold, given_to, is_replay, new_store, taken_from};
+ghost use Rattle.std.specs.Prelude.{◌≡◌, IfOk, IfSome, OnErr, is_some, is_ok, map, string_bytes};
+ghost use Rattle.xod_shell.specs.Commands.{target_asked};
+ghost use Rattle.xod_shell.specs.Endings.{Ends, IsTold, given_to, taken_from};
+ghost use Rattle.xod_shell.specs.Runs.{disk_of};
 ghost use Rattle.xod_shell.specs.declared.ending.Ending.TheVariants.{NoMemory};
 
 use std::alloc::Global;
@@ -14,6 +16,8 @@ use std::{env, io};
 use xod_base::Memory;
 use xod_io::{Sink, Source, StdSink, StdSource};
 use xod_shell::{Ending, Outcome, tell, xod_quiet};
+use xod_volume::Volume;
+use xod_volume_fs::FolderVolume;
 
 /// The words of the command line behind the program's name.
 fn read_words<R: Env + AllocGlobal>(rt: &R) -> io::Result<Vec<String>> {
@@ -33,33 +37,44 @@ fn words<R: Env + AllocGlobal>(rt: &R) -> Result<Vec<String>, Memory> {
     }
 }
 
-/// A whole run: the status of the top call, or that of the ending that is told where there was no memory for the words.
-fn run<S: Source, K: Sink>(
+/// What a run is handed: the words, and the volume in the folder `xod-store` of the working folder.
+fn given(rt: HostRuntime) -> Result<(Vec<String>, FolderVolume<HostRuntime>), Memory> {
+    let words = words(&rt)?;
+    let volume = FolderVolume::new(rt)?;
+    Ok((words, volume))
+}
+
+/// A whole run: the status of the top call and the volume behind it, or the status of the ending that is told where there was
+/// no memory for the words or the volume.
+fn run<S: Source, K: Sink, V: Volume>(
     alloc: Global,
-    words: Result<Vec<String>, Memory>,
+    given: Result<(Vec<String>, V), Memory>,
     input: &mut S,
     out: &mut K,
-) -> u8
-    ensures ends { IfOk words (λ given. Ends new_store
-        (is_replay (map (λ word. string_bytes word) given.items))
+) -> (u8, Option<V>)
+    ensures ends { IfOk given (λ was. IfSome result.1 (λ volume. Ends
+        (disk_of V.tells V.files V.faults V.moment V.may_leave was.1 volume)
+        (volume ≡ was.1) (target_asked (map (λ word. string_bytes word) was.0.items))
         (taken_from S.left S.faults input.old input.new)
-        (given_to K.written K.faults out.old out.new) result) }
-    ensures no_memory { OnErr words (IsTold NoMemory result
+        (given_to K.written K.faults out.old out.new) result.0)) }
+    ensures volume { is_some result.1 ≡ is_ok given }
+    ensures no_memory { OnErr given (IsTold NoMemory result.0
         (given_to K.written K.faults out.old out.new)) }
-    ensures nothing_read { OnErr words (input.new ≡ input.old) }
+    ensures nothing_read { OnErr given (input.new ≡ input.old) }
 {
-    match words {
-        Ok(words) => {
-            let Outcome { status, volume: () } = xod_quiet(alloc, &words, input, out, ());
-            status
+    match given {
+        Ok((words, volume)) => {
+            let Outcome { status, volume } = xod_quiet(alloc, &words, input, out, volume);
+            (status, Some(volume))
         }
-        Err(Memory) => tell(out, &Ending::NoMemory),
+        Err(Memory) => (tell(out, &Ending::NoMemory), None),
     }
 }
 
 fn main(rt: HostRuntime) -> ExitCode {
-    let words = words(&rt);
+    let alloc = rt.alloc();
     let mut input = StdSource::new(rt.stdin());
     let mut out = StdSink::new(rt.stdout());
-    ExitCode::from(run(rt.alloc(), words, &mut input, &mut out))
+    let (status, _) = run(alloc, given(rt), &mut input, &mut out);
+    ExitCode::from(status)
 }

@@ -1,28 +1,39 @@
 //! How a test runs the top call.
 mod faults;
 mod program;
+mod stores;
 
 use std::alloc::Global;
 use std::test::Fail;
 use xod_base::Bytes;
 use xod_io::{MemorySink, MemorySource, Sink, Source};
 use xod_shell::{Outcome, xod_quiet};
+use xod_volume::MemoryVolume;
 
-/// The status of a run with these words, over this source and this sink.
+/// The status of a run with these words, over this source, this sink and this volume, and the volume behind it.
+pub(crate) fn run_over<S: Source, K: Sink>(
+    alloc: Global,
+    words: &[&str],
+    source: &mut S,
+    sink: &mut K,
+    volume: MemoryVolume,
+) -> Result<(u8, MemoryVolume), Fail> {
+    let mut all = Vec::new(alloc);
+    for word in words {
+        all.push(String::from_str(alloc, word)?)?;
+    }
+    let Outcome { status, volume } = xod_quiet(alloc, &all, source, sink, volume);
+    Ok((status, volume))
+}
+
+/// The status of a run with these words, over this source and this sink, and over a volume without files.
 pub(crate) fn status_over<S: Source, K: Sink>(
     alloc: Global,
     words: &[&str],
     source: &mut S,
     sink: &mut K,
 ) -> Result<u8, Fail> {
-    let mut all = Vec::new(alloc);
-    for word in words {
-        all.push(String::from_str(alloc, word)?)?;
-    }
-    let Outcome { status, volume } = xod_quiet(alloc, &all, source, sink, 7u8);
-    if volume != 7 {
-        return Err(Fail::from("another volume"));
-    }
+    let (status, _) = run_over(alloc, words, source, sink, MemoryVolume::new(alloc)?)?;
     Ok(status)
 }
 
@@ -55,4 +66,19 @@ pub(crate) fn ran(
         left: source.left().len(),
         faults: (source.faults(), sink.faults()),
     })
+}
+
+/// What a run of `xod replay` prints over a volume, its status, and the volume behind it.
+pub(crate) fn replayed(
+    alloc: Global,
+    words: &[&str],
+    input: &[u8],
+    volume: MemoryVolume,
+) -> Result<(u8, Bytes, MemoryVolume), Fail> {
+    let mut source = MemorySource::new(alloc, input, &[])?;
+    let mut sink = MemorySink::new(alloc, &[])?;
+    let (status, volume) = run_over(alloc, words, &mut source, &mut sink, volume)?;
+    let mut text = Bytes::new(alloc);
+    text.extend(sink.bytes())?;
+    Ok((status, text, volume))
 }

@@ -1,13 +1,4 @@
-pub mod AlikeLemmas
+pub mod CauseLemmas
+pub mod EndLemmas
 pub mod EndingLemmas
-pub mod FollowLemmas
-pub mod FrontLemmas
-pub mod NamingLemmas
-pub mod OrderLemmas
-pub mod PlaceLemmas
-pub mod PlainLemmas
-pub mod PlayLemmas
-pub mod PlayerLemmas
-pub mod ReplayLemmas
-pub mod RoundLemmas
-pub mod SeatedLemmas
+pub mod RunLemmas

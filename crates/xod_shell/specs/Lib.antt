@@ -1,8 +1,5 @@
+pub mod Commands
 pub mod Endings
-pub mod Follows
-pub mod Orders
-pub mod Places
-pub mod Players
-pub mod Rounds
-pub mod Stops
-pub mod Told
+pub mod Holdings
+pub mod Runs
+pub mod Statuses

@@ -1,21 +1,11 @@
-//! The command, and how an ending is told.
-ghost use Rattle.std.specs.Prelude.{◌≡◌, ◌≤◌, map, string_bytes};
+//! How an ending is told.
+ghost use Rattle.std.specs.Prelude.{◌≡◌, ◌≤◌};
 ghost use Rattle.xod_io.specs.Outside.{TellsAsBefore};
-ghost use Rattle.xod_shell.specs.Endings.{IsTold, given_to, is_replay};
+ghost use Rattle.xod_shell.specs.Endings.{IsTold, given_to};
 
 use crate::ending::Ending;
 use xod_base::Failed;
 use xod_io::{Sink, write_all};
-
-/// Whether the words are the one command.
-pub fn is_replay(words: &[String]) -> bool
-    ensures { result ≡ is_replay (map (λ word. string_bytes word) words.now) }
-{
-    match words {
-        [word] => word.as_str() == "replay",
-        _ => false,
-    }
-}
 
 /// Writes the text of an ending, and answers its status, or 7 where the sink failed.
 pub fn tell<K: Sink>(out: &mut K, ending: &Ending) -> u8

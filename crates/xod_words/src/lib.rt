@@ -16,7 +16,7 @@ mod words;
 pub use draft::{Draft, Ent, VarList, VarUse};
 pub use laws::what_is_printed_is_read_back;
 pub use names::{read_name, read_session_name, read_variable};
-pub use numbers::read_count;
+pub use numbers::{count, read_count};
 pub use query::{read_draft, read_query};
 pub use values::{read_ent, read_value};
 pub use words::{

@@ -113,7 +113,7 @@ pub fn read_integer(word: &[u8]) -> Result<i64, Unread>
 
 /// The number of a word, where it has 32 bits.
 #[tactic(auto, unfolding(crate::specs::Numbers::count_of))]
-fn count(word: &[u8]) -> Option<u32>
+pub fn count(word: &[u8]) -> Option<u32>
     ensures { result ≡ count_of word.now }
 {
     let number = decimal(word)?;

@@ -9,7 +9,7 @@ const INPUT: &str =
     "session a\nbegin\nnew T as $x\nset $x p 3\nquery find T p 3\ncommit\norder\nturn a begin\nturn a flush\nturn a end\n";
 
 const TEXT: &str =
-    "session a\n2: at 0\n3: 0-0\n4: ok\n5: ids 0-0\n6: committed 1\n6: ended\ntotal commit 1 hits 0 misses 1 files 0\norder\nturn a begin\nturn a flush\nturn a end\n";
+    "session a\n2: at 0\n3: 0-0\n4: ok\n5: ids 0-0\n6: committed 1\n6: ended\ntotal commit 1 hits 0 misses 1 files 1\norder\nturn a begin\nturn a flush\nturn a end\n";
 
 #[test]
 fn a_fault_is_told_where_a_call_failed(rt: HostRuntime) -> Result<(), Fail> {

@@ -14,7 +14,7 @@ fn an_input_of_the_limit_is_read_and_a_longer_one_is_told(rt: HostRuntime) -> Re
     assert_eq!(rt; run.status, 0);
     assert_eq!(rt;
         run.text.as_slice(),
-        b"total commit 0 hits 0 misses 0 files 0\norder\n".as_slice()
+        b"total commit 0 hits 0 misses 0 files 1\norder\n".as_slice()
     );
     // One byte more, and a bad line before it: the length is told first, and no byte behind the one too many is read.
     input.truncate(0);

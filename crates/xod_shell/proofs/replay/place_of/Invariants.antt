@@ -1,7 +1,0 @@
-use Rattle.std.proofs.Common.{◌≡◌, ◌+◌, drop}
-use Rattle.std.specs.Prelude.{option_map}
-use Rattle.xod_shell.specs.Places.{place_named}
-use Rattle.xod_shell.proofs.replay.place_of.Given as goal
-
-abbrev pub invariant-loop-at : goal.invariant-loop-at
-invariant-loop-at l = place_named l.players l.name ≡ option_map (λ n. l.at + n) (place_named (drop l.at l.players) l.name)
