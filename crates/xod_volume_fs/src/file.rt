@@ -2,7 +2,8 @@
 //!
 //! It is opened at its first use, and stays open. Its bytes are read whole at their first use, and kept as the file has
 //! them from then on: after a call that may have left the two different they are let go of, and read again when they
-//! are next asked for.
+//! are next asked for. What is appended behind bytes that were lent is a piece of its own; after some appends they are joined,
+//! so that lending a file takes no longer the more often it was written to.
 ghost use Rattle.std.specs.Prelude.{◌≡◌, IfOk, OnOk, IsSome, Some};
 
 use crate::outside::{System, or_failed};
@@ -11,6 +12,9 @@ use std::alloc::Global;
 use std::fs;
 use std::fs::{File, OpenOptions};
 use xod_volume::{Body, VolumeError};
+
+/// After how many appends the bytes are joined into one piece.
+const JOINED_AFTER: usize = 64;
 
 /// Whether a sync of the file can be believed.
 #[derive(Clone, Copy)]
@@ -26,6 +30,8 @@ pub struct FolderFile {
     path: String,
     handle: Option<File>,
     body: Option<Body>,
+    /// How many appends there were since the bytes were last joined.
+    appends: usize,
     syncs: Syncs,
 }
 
@@ -38,6 +44,7 @@ impl FolderFile {
             path,
             handle: None,
             body: None,
+            appends: 0,
             syncs: Syncs::Sound,
         }
     }
@@ -111,12 +118,31 @@ impl FolderFile {
         }
     }
 
-    /// The bytes once more. None is copied.
+    /// Joins the bytes into one piece where there were many appends. Where memory is refused they stay as they are.
+    fn join(&mut self, alloc: Global)
+        ensures same { self.new.body ≡ self.old.body }
+    {
+        if self.appends < JOINED_AFTER {
+            return;
+        }
+        self.appends = 0;
+        let Some(body) = &self.body else {
+            return;
+        };
+        if let Ok(bytes) = body.copied(alloc) {
+            if let Ok(joined) = Body::from_bytes(alloc, bytes.as_slice()) {
+                self.body = Some(joined);
+            }
+        }
+    }
+
+    /// The bytes once more. None is copied, but where they are joined.
     pub fn share<R: System>(&mut self, rt: &R) -> Result<Body, VolumeError>
         ensures shared { IfOk result (λ body. self.new.body ≡ Some body) }
         ensures kept { StaysKept self.old.body self.new.body }
     {
         self.read_in(rt)?;
+        self.join(rt.alloc());
         match &mut self.body {
             Some(body) => Ok(body.share(rt.alloc())?),
             None => Err(VolumeError::Failed),
@@ -131,6 +157,7 @@ impl FolderFile {
         };
         let end = body.len();
         body.append(bytes)?;
+        self.appends = self.appends.saturating_add(1);
         let written = write_all(file, end, bytes);
         if written.is_err() {
             self.body = None;
