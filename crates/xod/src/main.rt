@@ -1,11 +1,12 @@
 //! The program: it makes the real objects, hands them to a run, and ends with its status.
 #![tactic(auto)]
 
-ghost use Rattle.std.specs.Prelude.{◌≡◌, IfOk, IfSome, OnErr, is_some, is_ok, map, string_bytes};
+ghost use Rattle.std.specs.Prelude.{◌≡◌, [], IfOk, IfSome, OnErr, codes, is_some, is_ok, map, string_bytes};
 ghost use Rattle.xod_shell.specs.Commands.{target_asked};
 ghost use Rattle.xod_shell.specs.Endings.{Ends, IsTold, given_to, taken_from};
 ghost use Rattle.xod_shell.specs.Runs.{disk_of};
 ghost use Rattle.xod_shell.specs.declared.ending.Ending.TheVariants.{NoMemory};
+ghost use Rattle.xod_volume_fs.specs.Kept.{folder_of};
 
 use std::alloc::Global;
 use std::io::ErrorKind;
@@ -38,7 +39,11 @@ fn words<R: Env + AllocGlobal>(rt: &R) -> Result<Vec<String>, Memory> {
 }
 
 /// What a run is handed: the words, and the volume in the folder `xod-store` of the working folder.
-fn given(rt: HostRuntime) -> Result<(Vec<String>, FolderVolume<HostRuntime>), Memory> {
+fn given(rt: HostRuntime) -> Result<(Vec<String>, FolderVolume<HostRuntime>), Memory>
+    ensures folder { IfOk result (λ given. folder_of given.1 ≡ codes "xod-store") }
+    ensures leases { IfOk result (λ given. ⟦<FolderVolume<HostRuntime> as Volume>⟧.leases given.1 ≡ []) }
+    ensures faults { IfOk result (λ given. ⟦<FolderVolume<HostRuntime> as Volume>⟧.faults given.1 ≡ 0) }
+{
     let words = words(&rt)?;
     let volume = FolderVolume::new(rt)?;
     Ok((words, volume))
