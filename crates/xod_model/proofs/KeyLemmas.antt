@@ -65,7 +65,7 @@ link_cmp-fields k l =
     fields a b = ap (ordering_then (nat_cmp a.kind b.kind)) (ended (nat_cmp a.local b.local))
 
 -- ---- the orders are total, and only equal keys tie
-pub both_equal : (a b : Ordering) → ordering_then a b ≡ Equal → (a ≡ Equal) × (b ≡ Equal)
+both_equal : (a b : Ordering) → ordering_then a b ≡ Equal → (a ≡ Equal) × (b ≡ Equal)
 both_equal Less b e = absurd (subst (λ r. T (is_eq r)) (sym e) tt)
 both_equal Equal b e = (refl, e)
 both_equal Greater b e = absurd (subst (λ r. T (is_eq r)) (sym e) tt)

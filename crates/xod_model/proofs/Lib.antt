@@ -6,6 +6,5 @@ pub mod PlainLemmas
 pub mod PlainTxnLemmas
 pub mod RisingLemmas
 pub mod RowLemmas
-pub mod SortLemmas
 pub mod TestLemmas
 pub mod TxnLemmas

@@ -1,18 +1,11 @@
 -- What a test of two parts, or of each item of a list, says of them.
 use Rattle.std.proofs.Common.{◌≡◌, ◌≢◌, Bool, true, false, T, refl, subst, sym}
-use Rattle.std.specs.Prelude.{not, ◌&&◌}
+use Rattle.std.specs.Prelude.{◌&&◌}
 use Rattle.std.proofs.lemmas.Bool.{false≢true}
-
-pub both : (a b : Bool) → a ≡ true → b ≡ true → (a && b) ≡ true
-both a b p q = λ i. p i && q i
 
 pub two : (a b : Bool) → (a && b) ≡ true → (a ≡ true) × (b ≡ true)
 two true b h = (refl, h)
 two false b h = absurd (false≢true h)
-
-pub untrue : (b : Bool) → not b ≡ true → b ≡ false
-untrue true h = absurd (false≢true h)
-untrue false h = refl
 
 pub unlike : (b : Bool) → (b ≢ true) → b ≡ false
 unlike true h = absurd (h refl)

@@ -5,7 +5,6 @@ pub mod Passing
 pub mod Plain
 pub mod PlainLaw
 pub mod PlainTxns
-pub mod Ranks
 pub mod Refusals
 pub mod Rising
 pub mod Txns

@@ -1,9 +1,10 @@
 //! What a query answers, by going through whole lists.
 //!
-//! The rule stands in `xod_base` in `specs/Evaluation.antt`. Each form is one function over the answers of its parts.
-ghost use Rattle.std.specs.Prelude.{◌≡◌, ◌==◌, ◌++◌, IfOk, drop, not, take};
+//! The rule stands in `xod_base` in `specs/Evaluation.antt`. A form that has
+//! parts is one function over their answers, most of them those of xod_forms.
+ghost use Rattle.std.specs.Prelude.{◌≡◌, ◌==◌, IfOk};
 ghost use Rattle.std.specs.List.{filter, flat_map};
-ghost use Rattle.xod_base.specs.Evaluation.{answer_of, has_id, ids_of as all_ids_of, rising, targets_of as all_targets_of};
+ghost use Rattle.xod_base.specs.Evaluation.{answer_of, ids_of as all_ids_of, rising, targets_of as all_targets_of};
 ghost use Rattle.xod_model.specs.Entries.{rows_of};
 ghost use Rattle.xod_model.specs.Passing.{passes};
 
@@ -13,58 +14,8 @@ use crate::passing::{Test, ValueTest, folded};
 use crate::removal::targets_of;
 use std::alloc::Global;
 use xod_base::{EntityId, IdList, Memory, Query, Text};
-use xod_sets::{intersect, minus, rising_of, rising_parts_suffice};
-
-/// The ids in either list, rising.
-fn in_either(left: IdList, right: &IdList) -> Result<IdList, Memory>
-    ensures { IfOk result (λ ids. ids ≡ rising (left ++ right.now)) }
-{
-    let mut ids = left;
-    ids.append(right)?;
-    Ok(rising_of(ids))
-}
-
-/// The ids in both lists, rising.
-fn in_both(alloc: Global, left: IdList, right: IdList) -> Result<IdList, Memory>
-    ensures { IfOk result (λ ids. ids ≡ rising (filter (has_id right) left)) }
-{
-    rising_parts_suffice();
-    let left = rising_of(left);
-    let right = rising_of(right);
-    let ids = intersect(alloc, &left, &right)?;
-    Ok(ids)
-}
-
-/// The ids in the left list and not in the right one, rising.
-fn in_first(alloc: Global, left: IdList, right: IdList) -> Result<IdList, Memory>
-    ensures { IfOk result (λ ids. ids ≡ rising (filter (λ id. not (has_id right id)) left)) }
-{
-    rising_parts_suffice();
-    let left = rising_of(left);
-    let right = rising_of(right);
-    let ids = minus(alloc, &left, &right)?;
-    Ok(ids)
-}
-
-/// A list without its first ids.
-fn skipped(alloc: Global, count: u32, ids: &IdList) -> Result<IdList, Memory>
-    ensures { IfOk result (λ rest. rest ≡ drop count ids.now) }
-{
-    let numbers = ids.as_numbers();
-    let count = numbers.len().min(count as usize);
-    let (_, rest) = numbers.split_at(count);
-    Ok(IdList::from_numbers(Vec::from_slice(alloc, rest)?))
-}
-
-/// The first ids of a list.
-fn taken(alloc: Global, count: u32, ids: &IdList) -> Result<IdList, Memory>
-    ensures { IfOk result (λ first. first ≡ take count ids.now) }
-{
-    let numbers = ids.as_numbers();
-    let count = numbers.len().min(count as usize);
-    let (first, _) = numbers.split_at(count);
-    Ok(IdList::from_numbers(Vec::from_slice(alloc, first)?))
-}
+use xod_forms::{in_both, in_either, in_first, skipped, taken};
+use xod_sets::rising_of;
 
 impl Lists {
     /// The ids of a type, rising.
@@ -162,7 +113,7 @@ impl Lists {
             Query::Union { left, right } => {
                 let left = self.answer(alloc, left.get())?;
                 let right = self.answer(alloc, right.get())?;
-                in_either(left, &right)
+                in_either(alloc, left, right)
             }
             Query::Intersect { left, right } => {
                 let left = self.answer(alloc, left.get())?;
@@ -192,7 +143,7 @@ impl Lists {
             }
             Query::Take { count, of } => {
                 let ids = self.answer(alloc, of.get())?;
-                taken(alloc, *count, &ids)
+                Ok(taken(*count, ids))
             }
         }
     }

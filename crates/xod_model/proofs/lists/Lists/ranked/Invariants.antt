@@ -1,7 +1,7 @@
 use Rattle.std.proofs.Common.{◌≡◌, ◌++◌, map, drop}
 use Rattle.xod_base.specs.Ids.{id_of_number}
+use Rattle.xod_forms.specs.Ranks.{rank_of}
 use Rattle.xod_model.specs.Entries.{rows_of}
-use Rattle.xod_model.specs.Ranks.{rank_of}
 use Rattle.xod_model.proofs.lists.Lists.ranked.Given as goal
 
 abbrev pub invariant-loop-number : goal.invariant-loop-number
