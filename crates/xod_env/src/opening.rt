@@ -2,7 +2,8 @@
 //!
 //! Where no log file is used, the pair of the first one is made. What an opening leaves of a volume stands in
 //! `specs/Opening.antt`.
-ghost use Rattle.std.specs.Prelude.{◌≡◌, ◌<◌, ◌≤◌, ℕ, true, false, Err, IfErr, IfOk, IsErrOf, IsTrue, OnOk, Some};
+ghost use Rattle.std.specs.Prelude.{◌≡◌, ◌<◌, ◌≤◌, ℕ, true, false, Err, IfErr, IfOk, IsErrOf, IsTrue, OnOk, Some, is_some};
+ghost use Rattle.std.specs.FinMap.{get};
 ghost use Rattle.xod_base.specs.Causes.{Rose};
 ghost use Rattle.xod_base.specs.declared.causes.Place.{Place};
 ghost use Rattle.xod_audit.specs.Audits.{kinds_of};
@@ -41,6 +42,8 @@ fn first_log<V: Volume>(volume: &mut V, target: u64) -> Result<Log, OpenError>
         → Rose (V.faults volume.old) (V.faults volume.new) }
     ensures unfailed { ¬ (result ≡ Err OpenError.Device)
         → V.faults volume.new ≡ V.faults volume.old }
+    ensures there { IsTrue (V.tells volume.old) → (file : ℕ) → 2 ≤ file
+        → is_some (get (V.files volume.new) file) ≡ is_some (get (V.files volume.old) file) }
 
     // What a crash may leave.
     ensures leaves { LeavesStored V.tells V.files V.moment V.may_leave V.leases V.refs V.faults
@@ -89,6 +92,8 @@ fn find_start<V: Volume>(alloc: Global, volume: &mut V, target: u64) -> Result<S
     ensures unfailed { OnOk result (V.faults volume.new ≡ V.faults volume.old) }
     ensures memory { result ≡ Err OpenError.Memory
         → V.faults volume.new ≡ V.faults volume.old }
+    ensures there { IsTrue (V.tells volume.old) → (file : ℕ) → 2 ≤ file
+        → is_some (get (V.files volume.new) file) ≡ is_some (get (V.files volume.old) file) }
 
     // What a crash may leave.
     ensures leaves { LeavesStored V.tells V.files V.moment V.may_leave V.leases V.refs V.faults
@@ -164,6 +169,8 @@ fn open_on<V: Volume>(alloc: Global, volume: &mut V, target: u64) -> Result<Open
     ensures unfailed { OnOk result (V.faults volume.new ≡ V.faults volume.old) }
     ensures memory { result ≡ Err OpenError.Memory
         → V.faults volume.new ≡ V.faults volume.old }
+    ensures there { IsTrue (V.tells volume.old) → (file : ℕ) → 2 ≤ file
+        → is_some (get (V.files volume.new) file) ≡ is_some (get (V.files volume.old) file) }
 
     // What a crash may leave.
     ensures leaves { LeavesStored V.tells V.files V.moment V.may_leave V.leases V.refs V.faults
@@ -207,6 +214,11 @@ impl<V: Volume> Env<V> {
         ensures unfailed { IfOk result (λ env. V.faults env.volume ≡ V.faults volume) }
         ensures memory { IfErr result (λ refused. refused.1 ≡ OpenError.Memory
             → V.faults refused.0 ≡ V.faults volume) }
+        ensures there { IsTrue (V.tells volume) → IfOk result (λ env. (file : ℕ) → 2 ≤ file
+            → is_some (get (V.files env.volume) file) ≡ is_some (get (V.files volume) file)) }
+        ensures refusal_there { IsTrue (V.tells volume) → IfErr result (λ refused. (file : ℕ)
+            → 2 ≤ file
+            → is_some (get (V.files refused.0) file) ≡ is_some (get (V.files volume) file)) }
 
         // What a crash may leave.
         ensures leaves { IfOk result (λ env. LeavesStored V.tells V.files V.moment V.may_leave
