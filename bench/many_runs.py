@@ -6,12 +6,14 @@
 60 seconds, seed 1 and crates/xod/out/xod where none are given. Each store has one to six runs, each with one to three
 sessions, a random order and a random target. After a run its status, its transcript, and the rows and the commit that the
 files store (tests/store_files.py) have to be those of the model. Half of the runs are long ones that are killed at a random
-moment: then the files have to store the rows after a front of the commits, and the next run goes on from there. Scripts have
-no `do` blocks, no exclusive transactions and no stops. A difference is printed with its seed and its script.
+moment, if they have not ended before: then the files have to store the rows after a front of the commits, and the next run
+goes on from there. Scripts have no `do` blocks, no exclusive transactions and no stops. A difference is printed with its
+seed and its script.
 """
 import os
 import random
 import shutil
+import signal
 import subprocess
 import sys
 import time
@@ -302,17 +304,20 @@ def stored(folder):
     return check(files), count_pairs(files)
 
 
-def killed(dice, words, folder, text, world):
-    """Kills a run at a random moment; what is wrong with what it leaves, or None. The world goes back to what is stored."""
+def killed(dice, words, folder, text, world, counts):
+    """Kills a run at a random moment; what is wrong with what it leaves, or None. The world goes back to what is stored.
+    A kill counts where the run had not ended by itself, and once more where it left some of the run's commits, not all."""
     child = subprocess.Popen(words, stdin=subprocess.PIPE, cwd=folder, stdout=subprocess.DEVNULL)
     child.stdin.write(text)
     child.stdin.close()
-    time.sleep(dice.random() * 0.02)
+    time.sleep(dice.random() * 0.006)
     child.kill()
-    child.wait()
+    is_killed = child.wait() == -signal.SIGKILL
     found, _ = stored(folder)
     if not isinstance(found, Found) or rows_of(found.maps) != world.past.get(found.commit):
         return f"killed, and no front of the commits is there: {found}"
+    counts["killed"] += is_killed
+    counts["killed between commits"] += is_killed and min(world.past) < found.commit < world.commit
     world.rows, world.commit = world.past[found.commit], found.commit
     return None
 
@@ -337,8 +342,8 @@ def lived(dice, program, folder, counts):
         world, target, is_killed = World(rows, commit), dice.choice(TARGETS), dice.random() < 0.5
         text, *wanted = played(dice, world, is_killed)
         words = [program, "replay", *(["--target", str(target)] if target else [])]
-        wrong = killed(dice, words, folder, text, world) if is_killed else ended(words, folder, text, wanted, world)
-        counts["kills" if is_killed else "runs"] += 1
+        wrong = killed(dice, words, folder, text, world, counts) if is_killed else ended(words, folder, text, wanted, world)
+        counts["long runs" if is_killed else "whole runs"] += 1
         if wrong:
             return wrong, text
         rows, commit = world.rows, world.commit
@@ -346,7 +351,8 @@ def lived(dice, program, folder, counts):
 
 
 def main(seconds=60, seed=1, program=os.path.join(HERE, "../crates/xod/out/xod")):
-    counts, differences, end = {"stores": 0, "runs": 0, "kills": 0}, 0, time.time() + float(seconds)
+    counts = dict.fromkeys(("stores", "whole runs", "long runs", "killed", "killed between commits"), 0)
+    differences, end = 0, time.time() + float(seconds)
     with work_folder() as work:
         while time.time() < end:
             folder = os.path.join(work, str(counts["stores"]))
